@@ -4,3 +4,4 @@ pub mod Merged
 pub mod Parts
 pub mod Runs
 pub mod Shallow
+pub use Rattle.document_merge.proofs.MergeChecks

@@ -14,7 +14,7 @@ use Rattle.merge_core.proofs.Regroup.{end_part, join_of_joins, joins_agreed}
 use Rattle.merge_core.specs.Marking.{strays}
 use Rattle.merge_core.specs.Refusals.{CanMerge, kind_clashes, least, members, root_clashes, too_deep}
 use Rattle.merge_core.proofs.Refused.{merged_is}
-use Rattle.merge_checks.specs.Cycles.{cycle_above}
+use Rattle.document_merge.specs.MergeChecks.Cycles.{cycle_above}
 use Rattle.document_merge.specs.declared.merging.MergeFail.{MergeFail}
 use Rattle.document_merge.specs.declared.merging.MergeFail.TheVariants.{RootClash, KindClash, MoveCycle, TooDeep}
 use Rattle.document_merge.specs.Merging.{MergeResult, kind_stage, level_stage, merge_result, path_stage, unless_found}

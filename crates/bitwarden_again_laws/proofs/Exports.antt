@@ -20,7 +20,7 @@ use Rattle.import_again_laws.proofs.Later.{EntryRow, LaterEntry, LaterPlace, One
 use Rattle.import_again_laws.proofs.Moments.{IsLater, document_later}
 use Rattle.import_again_laws.proofs.Newer.{newer_entry, newer_mark}
 use Rattle.import_ids.specs.Names.{EntryTexts}
-use Rattle.import_laws.proofs.Sources.{same_ok, then_ok}
+use Rattle.import_again_laws.proofs.ImportLaws.Sources.{same_ok, then_ok}
 use Rattle.import_tree.specs.Outcome.{sound_document, sound_tree}
 use Rattle.import_tree.specs.Trees.{Placed, placed_document}
 use Rattle.import_tree.specs.declared.fails.TreeFail.{TreeFail}

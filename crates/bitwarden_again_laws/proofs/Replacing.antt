@@ -9,7 +9,7 @@ use Rattle.bitwarden_core.specs.Placing.{export_places}
 use Rattle.bitwarden_forms.specs.Exports.{export_of}
 use Rattle.import_again_laws.proofs.Replacing.{agree, agree_turned, replaces}
 use Rattle.import_again_laws.proofs.Moments.{IsLater, not_earlier}
-use Rattle.import_laws.proofs.Sources.{then_ok}
+use Rattle.import_again_laws.proofs.ImportLaws.Sources.{then_ok}
 use Rattle.import_tree.specs.Trees.{placed_document}
 use Rattle.vault_model.proofs.Tests.{decide}
 use Rattle.vault_model.specs.Tree.{BareDoc}

@@ -2,7 +2,7 @@
 use Rattle.std.specs.Prelude.{◌≡◌, ◌≤◌, ℕ, List, Ok}
 use Rattle.bitwarden_core.specs.Documents.{bitwarden_document}
 use Rattle.import_again_laws.specs.Again.{LaterReplaces}
-use Rattle.import_laws.specs.Agreement.{Agree}
+use Rattle.import_again_laws.specs.ImportLaws.Agreement.{Agree}
 use Rattle.vault_model.specs.Tree.{BareDoc}
 
 -- Its documents at any two moments agree.

@@ -4,10 +4,10 @@ use Rattle.bitwarden_core.specs.Placing.{export_places}
 use Rattle.bitwarden_forms.specs.Exports.{export_of}
 use Rattle.bitwarden_forms.specs.declared.fails.BitwardenFail.{BitwardenFail}
 use Rattle.bitwarden_forms.specs.declared.fails.BitwardenFail.TheVariants as fail
-use Rattle.import_tree.specs.Outcome.{sound_document}
-use Rattle.import_tree.specs.Trees.{placed_document}
-use Rattle.import_tree.specs.declared.fails.TreeFail.{TreeFail}
-use Rattle.import_tree.specs.declared.fails.TreeFail.TheVariants as tree
+use Rattle.bitwarden_forms.specs.ImportTree.Outcome.{sound_document}
+use Rattle.bitwarden_forms.specs.ImportTree.Trees.{placed_document}
+use Rattle.bitwarden_forms.specs.ImportTree.declared.fails.TreeFail.{TreeFail}
+use Rattle.bitwarden_forms.specs.ImportTree.declared.fails.TreeFail.TheVariants as tree
 use Rattle.outside_core.specs.Results.{◌>>=◌}
 use Rattle.serde_json.specs.Data.{Data}
 use Rattle.vault_model.specs.Tree.{BareDoc}

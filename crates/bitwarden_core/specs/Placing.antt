@@ -2,7 +2,7 @@
 -- under their ids.
 use Rattle.std.specs.Prelude.{ℕ, List, [], ◌∷◌, ◌++◌, Some, Result, Ok, codes, map}
 use Rattle.bitwarden_core.specs.Folders.{folder_names, item_groups}
-use Rattle.bitwarden_fields.specs.Said.{addresses_of, first_text, login_of}
+use Rattle.bitwarden_items.specs.BitwardenFields.Said.{addresses_of, first_text, login_of}
 use Rattle.bitwarden_forms.specs.Exports.{folders_in, items_in}
 use Rattle.bitwarden_forms.specs.Json.{text}
 use Rattle.bitwarden_forms.specs.Kinds.{given_id}
@@ -10,7 +10,7 @@ use Rattle.bitwarden_forms.specs.declared.fails.BitwardenFail.{BitwardenFail}
 use Rattle.bitwarden_items.specs.Versions.{item_row}
 use Rattle.import_ids.specs.Ids.{id_after}
 use Rattle.import_ids.specs.Names.{EntryTexts}
-use Rattle.import_tree.specs.Trees.{Placed}
+use Rattle.bitwarden_forms.specs.ImportTree.Trees.{Placed}
 use Rattle.outside_core.specs.Results.{◌>>=◌}
 use Rattle.serde_json.specs.Data.{Data}
 use Rattle.vault_model.specs.Db.{NodeId}

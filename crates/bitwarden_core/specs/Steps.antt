@@ -6,9 +6,9 @@ use Rattle.bitwarden_forms.specs.declared.fails.BitwardenFail.{BitwardenFail}
 use Rattle.import_ids.specs.Counts.{HasCounted}
 use Rattle.import_ids.specs.Names.{EntryTexts}
 use Rattle.import_ids.specs.declared.counts.NameCounts.{NameCounts}
-use Rattle.import_tree.specs.SeenDrafts.{placed_seen}
-use Rattle.import_tree.specs.Trees.{Placed}
-use Rattle.import_tree.specs.declared.drafts.ImportedPlace.{ImportedPlace}
+use Rattle.bitwarden_forms.specs.ImportTree.SeenDrafts.{placed_seen}
+use Rattle.bitwarden_forms.specs.ImportTree.Trees.{Placed}
+use Rattle.bitwarden_forms.specs.ImportTree.declared.drafts.ImportedPlace.{ImportedPlace}
 use Rattle.outside_core.specs.Results.{Fails}
 use Rattle.serde_json.specs.Data.{Data}
 

@@ -6,4 +6,5 @@ mod keys;
 mod objects;
 mod said;
 
+pub use bitwarden_forms;
 pub use said::{fields_of, first_address, login_of};

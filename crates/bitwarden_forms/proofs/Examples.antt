@@ -2,7 +2,7 @@
 use Rattle.std.proofs.Common.{◌≡◌, None, Some, Err, codes, refl}
 use Rattle.std.specs.Str.{chars, is_utf8}
 use Rattle.serde_json.proofs.OnLiterals.{serde_json_on_literals}
-use Rattle.doc_forms.specs.Values.{iso_time}
+use Rattle.table_reading.specs.DocForms.Values.{iso_time}
 use Rattle.jiff_core.specs.Calendar.{day_count, days_of_months, days_of_years}
 use Rattle.uuid.proofs.OnLiterals.{uuid_on_literals}
 use Rattle.bitwarden_forms.specs.Dates.{date}

@@ -3,7 +3,7 @@
 use Rattle.std.specs.Prelude.{ℕ, Bool, ◌&&◌, ◌-◌, ◌==◌, if◌then◌else◌, nat_lt, List, ◌++◌, Option, codes, length, slice_index, slice_range, take}
 use Rattle.std.specs.Char.{is_ascii_digit}
 use Rattle.std.specs.List.{list_all}
-use Rattle.doc_forms.specs.Values.{iso_time}
+use Rattle.table_reading.specs.DocForms.Values.{iso_time}
 
 -- a `.` and digits are after the seconds, and then the `Z`
 abbrev pub has_fraction : List ℕ → Bool

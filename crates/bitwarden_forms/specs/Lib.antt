@@ -4,3 +4,4 @@ pub mod Kinds
 pub mod Refusals
 pub mod Exports
 pub mod Seen
+pub use Rattle.table_reading.specs.ImportTree

@@ -4,7 +4,7 @@ ghost use Rattle.std.specs.Prelude.{◌≡◌};
 ghost use Rattle.std.specs.Char.{is_ascii_digit};
 ghost use Rattle.std.specs.List.{list_all};
 ghost use Rattle.bitwarden_forms.specs.Dates as spec;
-ghost use Rattle.doc_forms.specs.Values as values_spec;
+ghost use Rattle.table_reading.specs.DocForms.Values as values_spec;
 
 use time_core::{Stamp, stamp_of_iso};
 

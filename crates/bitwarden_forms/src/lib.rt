@@ -12,3 +12,4 @@ pub use export::{folders_of, items_of, read_export};
 pub use fails::BitwardenFail;
 pub use json::{inner_member, text, values};
 pub use kinds::{given_id, has_id};
+pub use table_reading::import_tree;

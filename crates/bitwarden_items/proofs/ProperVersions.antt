@@ -3,7 +3,7 @@ use Rattle.std.proofs.Common.{◌≡◌, ◌&&◌, ℕ, true, List, [], ◌∷�
 use Rattle.std.specs.List.{list_all}
 use Rattle.std.specs.Str.{chars, is_utf8}
 use Rattle.bitwarden_items.specs.Proper.{are_proper}
-use Rattle.import_tree.specs.Entries.{content_at}
+use Rattle.bitwarden_fields.specs.ImportTree.Entries.{content_at}
 use Rattle.tree_core.proofs.Counted.{all_append}
 use Rattle.vault_model.proofs.Tests.{and_both}
 use Rattle.vault_model.specs.Bare.{BareField}

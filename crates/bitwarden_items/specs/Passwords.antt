@@ -3,8 +3,8 @@ use Rattle.std.specs.Prelude.{ℕ, Some, List, [], ◌∷◌, codes, map, option
 use Rattle.std.specs.Ordering.{nat_cmp, on}
 use Rattle.std.specs.declared.cmp.Ordering.{Ordering}
 use Rattle.std.specs.declared.cmp.Ordering.TheVariants.{Equal, Greater, Less}
-use Rattle.bitwarden_forms.specs.Dates.{date}
-use Rattle.bitwarden_forms.specs.Json.{text, values}
+use Rattle.bitwarden_fields.specs.BitwardenForms.Dates.{date}
+use Rattle.bitwarden_fields.specs.BitwardenForms.Json.{text, values}
 use Rattle.serde_json.specs.Data.{Data}
 use Rattle.serde_json.specs.Find.{as_str, get}
 use Rattle.vault_model.specs.Orders.{bytes_cmp, pair_cmp}

@@ -1,11 +1,11 @@
 -- The entry that an item gives, with its versions.
 use Rattle.std.specs.Prelude.{ℕ, ◌+◌, if◌then◌else◌, List, ◌∷◌, codes, map, nat_le, Result, Ok, Err}
 use Rattle.bitwarden_fields.specs.Said.{fields_of, login_of}
-use Rattle.bitwarden_forms.specs.Json.{text}
-use Rattle.bitwarden_forms.specs.declared.fails.BitwardenFail.{BitwardenFail}
-use Rattle.bitwarden_forms.specs.declared.fails.BitwardenFail.TheVariants as fail
+use Rattle.bitwarden_fields.specs.BitwardenForms.Json.{text}
+use Rattle.bitwarden_fields.specs.BitwardenForms.declared.fails.BitwardenFail.{BitwardenFail}
+use Rattle.bitwarden_fields.specs.BitwardenForms.declared.fails.BitwardenFail.TheVariants as fail
 use Rattle.bitwarden_items.specs.Passwords.{EarlierPassword, date_or, earlier_passwords}
-use Rattle.import_tree.specs.Entries.{content_at}
+use Rattle.bitwarden_fields.specs.ImportTree.Entries.{content_at}
 use Rattle.outside_core.specs.Results.{◌>>=◌}
 use Rattle.serde_json.specs.Data.{Data}
 use Rattle.time_core.specs.Times.{last_stamp}

@@ -1,7 +1,7 @@
 //! The entries that items give.
 
 ghost use Rattle.std.specs.Prelude.{◌≡◌, ◌+◌, ◌∷◌, IfOk, map, true};
-ghost use Rattle.bitwarden_forms.specs.Refusals.{Returns};
+ghost use Rattle.bitwarden_fields.specs.BitwardenForms.Refusals.{Returns};
 ghost use Rattle.bitwarden_items.specs.Passwords as passwords_spec;
 ghost use Rattle.bitwarden_items.specs.Seen.{passwords_seen};
 ghost use Rattle.bitwarden_items.specs.Versions as spec;
@@ -12,8 +12,8 @@ ghost use Rattle.vault_model.specs.Tree.{is_proper_entry};
 
 use crate::passwords::{EarlierPassword, date_or, earlier_passwords};
 use crate::versions::{history_of, version_of};
+use bitwarden_fields::bitwarden_forms::{BitwardenFail, text};
 use bitwarden_fields::login_of;
-use bitwarden_forms::{BitwardenFail, text};
 use outside_core::NoMemory;
 use serde_json::Value;
 use std::alloc::Global;

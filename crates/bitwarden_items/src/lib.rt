@@ -5,4 +5,5 @@ mod entries;
 mod passwords;
 mod versions;
 
+pub use bitwarden_fields;
 pub use entries::entry_of;

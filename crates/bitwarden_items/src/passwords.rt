@@ -6,7 +6,7 @@ ghost use Rattle.bitwarden_items.specs.Passwords as spec;
 ghost use Rattle.bitwarden_items.specs.Seen.{password_seen, passwords_seen};
 ghost use Rattle.serde_json.specs.View.{view};
 
-use bitwarden_forms::{date, text, values};
+use bitwarden_fields::bitwarden_forms::{date, text, values};
 use outside_core::{NoMemory, Text};
 use serde_json::Value;
 use std::alloc::Global;

@@ -5,7 +5,7 @@ ghost use Rattle.std.specs.List.{list_all};
 ghost use Rattle.bitwarden_items.specs.Proper.{are_proper};
 ghost use Rattle.bitwarden_items.specs.Seen.{password_seen, passwords_seen};
 ghost use Rattle.bitwarden_items.specs.Versions as spec;
-ghost use Rattle.import_tree.specs.Entries.{content_at};
+ghost use Rattle.bitwarden_fields.specs.ImportTree.Entries.{content_at};
 ghost use Rattle.serde_json.specs.View.{view};
 ghost use Rattle.vault_model.specs.Proper.{is_proper_content};
 ghost use Rattle.vault_model.specs.Seen.{bare_content, bare_field};

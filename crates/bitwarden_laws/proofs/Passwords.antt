@@ -7,8 +7,8 @@ use Rattle.std.specs.Prelude.{codes, nat_le, Some}
 use Rattle.std.specs.Str.{bytes_eq}
 use Rattle.std.specs.declared.cmp.Ordering.{Ordering}
 use Rattle.std.specs.declared.cmp.Ordering.TheVariants.{Equal, Greater, Less}
-use Rattle.bitwarden_fields.specs.Keys.{first_free, free_key, has_key, numbered_key, put_all, with_field, with_fields}
-use Rattle.bitwarden_fields.specs.Said.{addresses_of, code_field, custom_field, field, fields_of, first_text, login_of, more_addresses, objects_fields, said_fields}
+use Rattle.bitwarden_items.specs.BitwardenFields.Keys.{first_free, free_key, has_key, numbered_key, put_all, with_field, with_fields}
+use Rattle.bitwarden_items.specs.BitwardenFields.Said.{addresses_of, code_field, custom_field, field, fields_of, first_text, login_of, more_addresses, objects_fields, said_fields}
 use Rattle.bitwarden_forms.specs.Json.{text, values}
 use Rattle.bitwarden_forms.specs.declared.fails.BitwardenFail.{BitwardenFail}
 use Rattle.bitwarden_forms.specs.declared.fails.BitwardenFail.TheVariants as fail

@@ -1,6 +1,6 @@
 -- What becomes of the passwords that an item had before.
 use Rattle.std.specs.Prelude.{◌≡◌, ◌<◌, ℕ, true, List, Ok, Some, codes}
-use Rattle.bitwarden_fields.specs.Said.{field}
+use Rattle.bitwarden_items.specs.BitwardenFields.Said.{field}
 use Rattle.bitwarden_forms.specs.Json.{text, values}
 use Rattle.bitwarden_items.specs.Versions.{item_row}
 use Rattle.serde_json.specs.Data.{Data}

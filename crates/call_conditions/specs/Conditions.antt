@@ -15,23 +15,23 @@ use Rattle.content_condition_laws.specs.Conditions.{CanBeMerged, CanExport, CanS
 use Rattle.doc_write.specs.Written.{write_outcome}
 use Rattle.kdbx_frame.specs.declared.settings.Settings.{Settings}
 use Rattle.kdbx_frame.specs.declared.sealings.Sealing.{Sealing}
-use Rattle.kdbx_seal.specs.Answers.{size_refusal}
+use Rattle.keepass_call.specs.KdbxSeal.Answers.{size_refusal}
 use Rattle.cli_needs.specs.declared.command.Command.{Command}
 use Rattle.cli_needs.specs.declared.command.Command.TheVariants.{Ls, Show, History, Search, Add, Edit, Restore, ExportAttachment, ImportAttachment, RemoveAttachment, Move, Remove, MakeGroup, RemoveGroup, Merge, Import, Create, Export, EditFile, Info}
 use Rattle.cli_needs.specs.Needs.{generated_by}
 use Rattle.cli_profiles.specs.declared.profiles.PasswordProfile.{PasswordProfile}
 use Rattle.cli_codes.specs.Codes.{code_refusal}
-use Rattle.cli_printing.specs.Listing.{tree_listed}
+use Rattle.content_condition_laws.specs.CliPrinting.Listing.{tree_listed}
 use Rattle.cli_writing.specs.Drawing.{next_bytes}
-use Rattle.cli_sealing.specs.Draws.{draws_of}
-use Rattle.cli_sealing.specs.Sealing.{settings_for}
-use Rattle.cli_changes.specs.Entries.{further_of}
-use Rattle.cli_changes.specs.Ids.{new_id}
-use Rattle.cli_changes.specs.Nodes.{names_group}
+use Rattle.keepass_call.specs.CliSealing.Draws.{draws_of}
+use Rattle.keepass_call.specs.CliSealing.Sealing.{settings_for}
+use Rattle.keepass_call.specs.CliChanges.Entries.{further_of}
+use Rattle.keepass_call.specs.CliChanges.Ids.{new_id}
+use Rattle.keepass_call.specs.CliChanges.Nodes.{names_group}
 use Rattle.tree_core.specs.Changes.{is_free}
-use Rattle.cli_commands.specs.Commands.{Change, Inputs, bin_id, change_with, makes_node}
-use Rattle.cli_files.specs.Tasks.{Task}
-use Rattle.call_run.specs.Endings.{change_of_task, inputs_of}
+use Rattle.keepass_call.specs.CliCommands.Commands.{Change, Inputs, bin_id, change_with, makes_node}
+use Rattle.keepass_call.specs.CliFiles.Tasks.{Task}
+use Rattle.keepass_call.specs.CallRun.Endings.{change_of_task, inputs_of}
 use Rattle.keepass_call.specs.Held.{IsTask}
 use Rattle.keepass_call.specs.Outcome.{World}
 

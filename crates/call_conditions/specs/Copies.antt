@@ -5,15 +5,15 @@ use Rattle.outside_core.specs.Files.{FileMap}
 use Rattle.key_core.specs.Keys.{composite_key}
 use Rattle.vault_model.specs.Tree.{BareDoc}
 use Rattle.doc_forms.specs.Documents.{DocumentAndHash}
-use Rattle.kdbx_open.specs.Opening.{FileContents}
-use Rattle.kdbx_open.specs.Sealed.{Sealed}
+use Rattle.keepass_call.specs.KdbxOpen.Opening.{FileContents}
+use Rattle.keepass_call.specs.KdbxOpen.Sealed.{Sealed}
 use Rattle.cli_needs.specs.declared.command.Access.{Access}
 use Rattle.cli_needs.specs.Needs as from
 use Rattle.cli_needs.specs.Needs.{Origin, needs_of, origin_of}
-use Rattle.cli_files.specs.Files.{plain_document}
-use Rattle.cli_files.specs.Held.{GivesKey}
-use Rattle.cli_files.specs.Tasks.{Task}
-use Rattle.cli_databases.specs.Databases.{password_from}
+use Rattle.keepass_call.specs.CliFiles.Files.{plain_document}
+use Rattle.keepass_call.specs.CliFiles.Held.{GivesKey}
+use Rattle.keepass_call.specs.CliFiles.Tasks.{Task}
+use Rattle.keepass_call.specs.CliDatabases.Databases.{password_from}
 use Rattle.keepass_call.specs.Outcome.{Counts, Seen, World}
 
 -- ---- copies

@@ -5,11 +5,11 @@ use Rattle.std.specs.FinMap.{get, insert}
 use Rattle.std.specs.Option.{unwrap_or}
 use Rattle.outside_core.specs.Files.{FileMap}
 use Rattle.vault_model.specs.Tree.{BareDoc, IsDoc}
-use Rattle.run_laws.specs.TrimmedRuns.{DocEvent, IsRun, growth, joining, overwriting, world_after}
+use Rattle.content_condition_laws.specs.RunLaws.TrimmedRuns.{DocEvent, IsRun, growth, joining, overwriting, world_after}
 use Rattle.cli_needs.specs.declared.command.Command.{Command}
 use Rattle.cli_parse.specs.Words.{command_of}
-use Rattle.cli_files.specs.Tasks.{Task}
-use Rattle.cli_commands.specs.Commands.{may_write}
+use Rattle.keepass_call.specs.CliFiles.Tasks.{Task}
+use Rattle.keepass_call.specs.CliCommands.Commands.{may_write}
 use Rattle.keepass_call.specs.Call.{IsCall}
 use Rattle.keepass_call.specs.Held.{IsTask}
 use Rattle.keepass_call.specs.Merges.{merges}

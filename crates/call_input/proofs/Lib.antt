@@ -1,2 +1,3 @@
 pub mod ReadTasks
 pub mod Opened
+pub use Rattle.cli_resealing.proofs.CliDatabases

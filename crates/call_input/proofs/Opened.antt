@@ -12,21 +12,21 @@ use Rattle.cli_needs.specs.declared.command.Access.{Access}
 use Rattle.cli_needs.specs.declared.command.Command.{Command}
 use Rattle.cli_needs.specs.declared.command.Command.TheVariants.{Ls, Show, History, Search, Add, Edit, Restore, ExportAttachment, ImportAttachment, RemoveAttachment, Move, Remove, MakeGroup, RemoveGroup, Merge, Import, Create, Export, EditFile, Info}
 use Rattle.cli_lines.specs.Lines.{HasLines, Lines}
-use Rattle.cli_files.specs.Files.{Databases, Opened}
-use Rattle.cli_databases.proofs.HeldFiles.{databases_given, databases_held}
-use Rattle.cli_databases.proofs.SomeOpened.{sealed_unless_plain}
-use Rattle.cli_importing.proofs.HeldImports.{import_given, import_held}
-use Rattle.cli_importing.proofs.Sealings.{sealed_anew}
-use Rattle.cli_databases.specs.Databases.{databases_of}
-use Rattle.cli_importing.specs.Imports.{imported_of, refuse_file}
+use Rattle.cli_resealing.specs.CliFiles.Files.{Databases, Opened}
+use Rattle.cli_resealing.proofs.CliDatabases.HeldFiles.{databases_given, databases_held}
+use Rattle.cli_resealing.proofs.CliDatabases.SomeOpened.{sealed_unless_plain}
+use Rattle.cli_resealing.proofs.CliImporting.HeldImports.{import_given, import_held}
+use Rattle.cli_resealing.proofs.CliImporting.Sealings.{sealed_anew}
+use Rattle.cli_resealing.specs.CliDatabases.Databases.{databases_of}
+use Rattle.cli_resealing.specs.CliImporting.Imports.{imported_of, refuse_file}
 use Rattle.cli_resealing.specs.Created.{created_of}
 use Rattle.cli_resealing.specs.Edited.{edited_of}
 use Rattle.cli_resealing.proofs.Helds.{created_given, created_held, edited_given, edited_held}
 use Rattle.cli_resealing.proofs.Sealed.{sealed_created, sealed_edited}
-use Rattle.cli_databases.specs.SeenOpened.{databases_seen}
-use Rattle.cli_databases.specs.declared.databases.Databases as memory
-use Rattle.cli_databases.proofs.Phases.{stops_both}
-use Rattle.cli_files.proofs.FileStops.{first_at_files, later_at_files}
+use Rattle.cli_resealing.specs.CliDatabases.SeenOpened.{databases_seen}
+use Rattle.cli_resealing.specs.CliDatabases.declared.databases.Databases as memory
+use Rattle.cli_resealing.proofs.CliDatabases.Phases.{stops_both}
+use Rattle.cli_resealing.proofs.CliFiles.FileStops.{first_at_files, later_at_files}
 use Rattle.cli_messages.specs.Phases.{IsFileStop, Returns, Stops}
 use Rattle.cli_messages.specs.declared.answers.Stop.{Stop}
 use Rattle.call_input.specs.Attaching.{attached_by, attached_for, bytes_in}

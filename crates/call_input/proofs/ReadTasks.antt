@@ -14,13 +14,13 @@ use Rattle.cli_lines.specs.SeenLines.{lines_seen}
 use Rattle.cli_lines.proofs.Inputs.{left_alone}
 use Rattle.cli_needs.specs.Needs.{HasKeyAfter, Needs, asks_line, files_named, needs_of, target_access}
 use Rattle.cli_needs.specs.declared.command.Command.{Command}
-use Rattle.cli_files.specs.Files.{Databases}
+use Rattle.cli_resealing.specs.CliFiles.Files.{Databases}
 use Rattle.call_input.specs.Opening.{SomeCommandDatabases, databases_for}
-use Rattle.cli_files.specs.declared.task.Task as memory
+use Rattle.cli_resealing.specs.CliFiles.declared.task.Task as memory
 use Rattle.cli_parse.specs.Words.{command_of}
-use Rattle.cli_databases.proofs.Phases.{stops_both}
-use Rattle.cli_files.specs.SeenTask.{task_seen}
-use Rattle.cli_files.specs.Tasks.{Task, databases_in, task_with}
+use Rattle.cli_resealing.proofs.CliDatabases.Phases.{stops_both}
+use Rattle.cli_resealing.specs.CliFiles.SeenTask.{task_seen}
+use Rattle.cli_resealing.specs.CliFiles.Tasks.{Task, databases_in, task_with}
 use Rattle.call_input.proofs.Opened.{sealed_command}
 use Rattle.call_input.specs.Attaching.{SomeAttached, attached_for}
 use Rattle.call_input.specs.Reading.{HasSomeFile, asked_by, left_behind, opened_task, task_of}

@@ -4,7 +4,7 @@ use Rattle.std.specs.FinMap as map
 use Rattle.outside_core.specs.Files.{FileMap}
 use Rattle.outside_core.specs.Results.{◌>>=◌}
 use Rattle.cli_messages.specs.declared.answers.Refusal.{Refusal}
-use Rattle.cli_files.specs.Files.{of_file}
+use Rattle.cli_resealing.specs.CliFiles.Files.{of_file}
 use Rattle.cli_needs.specs.declared.command.Command.{Command}
 use Rattle.cli_needs.specs.Needs.{Attached, Origin, origin_of}
 

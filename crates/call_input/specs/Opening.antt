@@ -8,12 +8,12 @@ use Rattle.cli_needs.specs.declared.command.Command.{Command}
 use Rattle.cli_needs.specs.Needs as from
 use Rattle.cli_needs.specs.Needs.{Needs, Origin, needs_of, origin_of}
 use Rattle.cli_lines.specs.Lines.{Lines}
-use Rattle.cli_files.specs.Files.{Databases, Opened}
-use Rattle.cli_databases.specs.Databases.{databases_of}
-use Rattle.cli_databases.specs.Held.{HoldDatabases}
-use Rattle.cli_databases.specs.SomeFiles.{SomeDatabases}
-use Rattle.cli_importing.specs.Held.{HoldsImport, SomeImport}
-use Rattle.cli_importing.specs.Imports.{imported_of, refuse_file}
+use Rattle.cli_resealing.specs.CliFiles.Files.{Databases, Opened}
+use Rattle.cli_resealing.specs.CliDatabases.Databases.{databases_of}
+use Rattle.cli_resealing.specs.CliDatabases.Held.{HoldDatabases}
+use Rattle.cli_resealing.specs.CliDatabases.SomeFiles.{SomeDatabases}
+use Rattle.cli_resealing.specs.CliImporting.Held.{HoldsImport, SomeImport}
+use Rattle.cli_resealing.specs.CliImporting.Imports.{imported_of, refuse_file}
 use Rattle.cli_resealing.specs.Created.{created_of}
 use Rattle.cli_resealing.specs.Edited.{edited_of}
 use Rattle.cli_resealing.specs.Held.{HoldsCreated, HoldsEdited, SomeCreated, SomeEdited}

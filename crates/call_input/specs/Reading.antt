@@ -9,7 +9,7 @@ use Rattle.cli_parse.specs.Words.{command_of}
 use Rattle.cli_lines.specs.Lines.{HasLines, Lines, lines_of}
 use Rattle.call_input.specs.Attaching.{SomeAttached, attached_for}
 use Rattle.call_input.specs.Opening.{SomeCommandDatabases, databases_for}
-use Rattle.cli_files.specs.Tasks.{Task, databases_in, task_with}
+use Rattle.cli_resealing.specs.CliFiles.Tasks.{Task, databases_in, task_with}
 
 -- The task of a command at a moment by the lines that it asked for: with the databases that it names,
 -- or the one that it makes, and then the bytes of the file that it puts into its database.

@@ -2,15 +2,15 @@
 ghost use Rattle.std.specs.Prelude.{◌≡◌, [], ◌∷◌, IfErr, IfOk, Ok, OnOk, Some, option_map};
 ghost use Rattle.outside_core.specs.Files.{FileMap};
 ghost use Rattle.outside_core.specs.Reports.{reported};
-ghost use Rattle.cli_files.specs.LeavesFiles.{LeavesFiles};
+ghost use Rattle.cli_resealing.specs.CliFiles.LeavesFiles.{LeavesFiles};
 ghost use Rattle.cli_messages.specs.Phases.{IsFileStop, Returns};
 ghost use Rattle.cli_needs.specs.Needs.{files_named};
 ghost use Rattle.call_input.specs.Attaching as spec;
 ghost use Rattle.call_input.specs.Attaching.{SomeAttached};
 
-use cli_files::unread;
 use cli_messages::Stop;
 use cli_needs::{Command, Origin, origin_of};
+use cli_resealing::cli_files::unread;
 use kdbx_frame::FILE_LIMIT;
 use outside_core::{FileStore, Text};
 use secret_core::{Secret, read_file};

@@ -17,7 +17,7 @@ use Rattle.cli_sealing.specs.Sealing.{Seals, settings_for}
 use Rattle.cli_needs.specs.declared.command.Command.{Command}
 use Rattle.cli_needs.specs.declared.command.Command.TheVariants.{Ls, Show, History, Search, Add, Edit, Restore, ExportAttachment, ImportAttachment, RemoveAttachment, Move, Remove, MakeGroup, RemoveGroup, Merge, Import, Create, Export, EditFile, Info}
 use Rattle.cli_needs.specs.Needs.{target_access}
-use Rattle.cli_writing.specs.Writing.{IsSizeStop, IsWriteStop, KeepsDraft, KeepsFiles, NewFile, Store, Writes}
+use Rattle.cli_commands.specs.CliWriting.Writing.{IsSizeStop, IsWriteStop, KeepsDraft, KeepsFiles, NewFile, Store, Writes}
 use Rattle.cli_commands.specs.declared.output.Output.{Output}
 use Rattle.cli_commands.specs.Commands.{Change, Inputs, change_of, draws_change, may_write}
 use Rattle.cli_commands.proofs.Changes.{none_changed}

@@ -1,1 +1,2 @@
 pub mod Carried
+pub use Rattle.cli_commands.proofs as CliCommands

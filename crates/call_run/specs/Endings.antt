@@ -10,8 +10,8 @@ use Rattle.cli_needs.specs.declared.command.Command.{Command}
 use Rattle.cli_needs.specs.Needs.{exported_to, target_of}
 use Rattle.kdbx_frame.specs.declared.settings.Settings.{Settings}
 use Rattle.kdbx_frame.specs.declared.sealings.Sealing.{Sealing}
-use Rattle.cli_writing.specs.Held.{HoldsPlain, IsWritten}
-use Rattle.cli_writing.specs.Writing.{HasFile, IsSame, NewFile, RefusesFile, Store, WritesFile, plain_file}
+use Rattle.cli_commands.specs.CliWriting.Held.{HoldsPlain, IsWritten}
+use Rattle.cli_commands.specs.CliWriting.Writing.{HasFile, IsSame, NewFile, RefusesFile, Store, WritesFile, plain_file}
 use Rattle.cli_sealing.specs.Held.{HoldsSealed}
 use Rattle.cli_sealing.specs.Sealing.{sealed_file, settings_for}
 use Rattle.cli_commands.specs.declared.output.Output.{Output}

@@ -5,3 +5,5 @@
 mod carrying;
 
 pub use carrying::{Request, carry_out, close, step};
+pub use cli_commands;
+pub use cli_files;

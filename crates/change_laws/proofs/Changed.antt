@@ -8,7 +8,7 @@ use Rattle.vault_model.specs.Db.{NodeId, nil_id}
 use Rattle.vault_model.specs.Tree.{BareDoc, IsDoc}
 use Rattle.merge_changes.specs.Equality.{same_doc}
 use Rattle.merge_changes.proofs.SameValues.{doc_decides}
-use Rattle.document_merge.specs.Merging.{MergeResult, merge_result}
+use Rattle.cli_commands.specs.DocumentMerge.Merging.{MergeResult, merge_result}
 use Rattle.tree_core.specs.After.{AfterRemoval, after_add, after_attach, after_detach, after_edit, after_make_group, after_move_entry, after_move_group, after_remove_entry, after_remove_group, after_restore, needs_bin}
 use Rattle.tree_core.specs.declared.fails.TreeFail.{TreeFail}
 use Rattle.tree_core.specs.declared.fails.TreeFail.TheVariants.{StampLimit}
@@ -33,7 +33,7 @@ use Rattle.cli_changes.specs.Ids.{new_id}
 use Rattle.cli_changes.specs.Nodes.{after_entry_move, after_group_move, after_mkdir, after_rm, after_rmdir, group_name, names_group}
 use Rattle.cli_changes.specs.Reports.{report}
 use Rattle.cli_changes.specs.Versions.{after_restore_command}
-use Rattle.cli_merging.specs.Merging.{AfterMerge, after_merge, after_merged, changes_between, merged_or_refusal}
+use Rattle.cli_commands.specs.CliMerging.Merging.{AfterMerge, after_merge, after_merged, changes_between, merged_or_refusal}
 use Rattle.cli_commands.specs.Commands.{Change, Inputs, bin_id, change_by, change_with, drawn_id, makes_node, merged_change, new_document, password_of, some_password, with_password}
 use Rattle.change_laws.specs.Changes.{CommandsGrow, LeavesGrown, LeavesMerged, MergesMerge, edits}
 

@@ -2,7 +2,7 @@
 -- statement speaks of all documents, moments, lines, settings and dice.
 use Rattle.std.specs.Prelude.{◌≡◌, ◌⊎◌, ℕ, Bool, false, true, List, Option, None, Some, Ok}
 use Rattle.vault_model.specs.Tree.{BareDoc, IsDoc}
-use Rattle.document_merge.specs.Merging.{merge_result}
+use Rattle.cli_commands.specs.DocumentMerge.Merging.{merge_result}
 use Rattle.command_laws.specs.Growing.{GrowsInCurrent}
 use Rattle.cli_needs.specs.declared.command.Access.{Access}
 use Rattle.cli_needs.specs.declared.command.Command.{Command}

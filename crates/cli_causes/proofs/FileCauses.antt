@@ -15,7 +15,7 @@ use Rattle.cli_needs.specs.declared.command.KdfAsked.{KdfAsked}
 use Rattle.cli_needs.specs.declared.command.KdfKind.{KdfKind}
 use Rattle.cli_parse.specs.Settings.{change_in, change_with, cipher_in, cipher_named, cost_or, has_argon_cost, has_file_change, if_named, is_argon, kdf_asked, kdf_in, kdf_named, kdf_of, kdf_with, usual_rounds, version_in, version_named}
 use Rattle.cli_parse.specs.Words.{access_sealed, create_at, create_with, edit_file_at}
-use Rattle.kdbx_frame.specs.declared.settings.Cipher.{Cipher}
+use Rattle.cli_needs.specs.KdbxFrame.declared.settings.Cipher.{Cipher}
 use Rattle.vault_model.specs.declared.forms.FileVersion.{FileVersion}
 use Rattle.cli_causes.specs.declared.cause.Cause.{Cause}
 use Rattle.cli_causes.specs.declared.cause.Cause.TheVariants.{NeedsArgon, NeedsKdf, NoKeyLeft, NoNewKey, NotTogether, NotWithPlain, UnknownCipher, UnknownCost, UnknownKdf, UnknownVersion}

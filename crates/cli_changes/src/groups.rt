@@ -14,7 +14,7 @@ use cli_messages::Stop;
 use secret_core::Secret;
 use std::alloc::Global;
 use tree_core::{TreeFail, find_group};
-use tree_groups::{make_group, name_of_new};
+use tree_removals::tree_groups::{make_group, name_of_new};
 use tree_steps::group_of;
 use uuid_core::Uuid;
 use vault_model::{Doc, Group};

@@ -20,4 +20,5 @@ pub use groups::make_group_of;
 pub use ids::new_id;
 pub use moves::move_node;
 pub use removals::{remove_entry_of, remove_group_of};
+pub use tree_removals::tree_moves;
 pub use versions::restore_entry;

@@ -13,7 +13,7 @@ use cli_messages::Stop;
 use secret_core::Secret;
 use std::alloc::Global;
 use tree_core::TreeFail;
-use tree_moves::{move_entry, move_group};
+use tree_removals::tree_moves::{move_entry, move_group};
 use vault_model::Doc;
 
 // Moves an entry at a moment.

@@ -8,8 +8,8 @@ use Rattle.std.proofs.lemmas.List.{drop-drop, drop_at}
 use Rattle.vault_model.specs.Db.{NodeId, nil_id}
 use Rattle.cli_profiles.specs.Profiles.{IsProfile}
 use Rattle.cli_profiles.specs.declared.profiles.PasswordProfile.{PasswordProfile}
-use Rattle.cli_needs.specs.Needs.{generated_by, needs_of}
-use Rattle.cli_needs.specs.declared.command.Access.{Access}
+use Rattle.cli_lines.specs.CliNeeds.Needs.{generated_by, needs_of}
+use Rattle.cli_lines.specs.CliNeeds.declared.command.Access.{Access}
 use Rattle.vault_model.specs.Tree.{BareDoc, Tree}
 use Rattle.tree_core.specs.After.{needs_bin}
 use Rattle.tree_core.specs.NewNodes.{lent_value}
@@ -19,10 +19,10 @@ use Rattle.cli_messages.specs.declared.answers.Stop.TheVariants.{Refused, FileFa
 use Rattle.cli_messages.specs.Phases.{IsLeft, IsPlainStop, IsStreamStop, RefusesAskedStream, RefusesStream, Returns, ReturnsAskedStream, StreamAnswer, TellsStream, after_left, then_left, with_left}
 use Rattle.cli_changes.specs.Attachments.{attachment_bytes}
 use Rattle.cli_changes.specs.Ids.{new_id}
-use Rattle.cli_writing.proofs.Drawn.{next_first}
+use Rattle.cli_printing.proofs.CliWriting.Drawn.{next_first}
 use Rattle.cli_lines.specs.Lines.{IsTextLine}
-use Rattle.cli_needs.specs.declared.command.Command.{Command}
-use Rattle.cli_needs.specs.declared.command.Command.TheVariants.{Ls, Show, History, Search, Add, Edit, Restore, ExportAttachment, ImportAttachment, RemoveAttachment, Move, Remove, MakeGroup, RemoveGroup, Merge, Import, Create, Export, EditFile, Info}
+use Rattle.cli_lines.specs.CliNeeds.declared.command.Command.{Command}
+use Rattle.cli_lines.specs.CliNeeds.declared.command.Command.TheVariants.{Ls, Show, History, Search, Add, Edit, Restore, ExportAttachment, ImportAttachment, RemoveAttachment, Move, Remove, MakeGroup, RemoveGroup, Merge, Import, Create, Export, EditFile, Info}
 use Rattle.cli_commands.specs.declared.output.Change as declared
 use Rattle.cli_commands.specs.Commands.{Change, Inputs, bin_id, change_by, change_of, change_with, drawn_id, draws_change, draws_id, exported_file, exported_so, password_of, some_password, listing_of, makes_node, may_write, merged_change, printed_text, with_password}
 use Rattle.cli_printing.specs.Exporting.{exported}

@@ -1,7 +1,7 @@
 -- What each command makes of its database.
 use Rattle.std.specs.Prelude.{ℕ, Bool, true, false, not, ◌||◌, if◌then◌else◌, is_some, List, [], ◌∷◌, ◌++◌, codes, Option, None, Some, Result, Ok, Err}
 use Rattle.std.specs.Option.{unwrap_or}
-use Rattle.kdbx_frame.specs.declared.settings.Settings.{Settings}
+use Rattle.cli_lines.specs.KdbxFrame.declared.settings.Settings.{Settings}
 use Rattle.vault_model.specs.Db.{NodeId, nil_id}
 use Rattle.vault_model.specs.Tree as tree
 use Rattle.vault_model.specs.Tree.{BareDoc, Tree}
@@ -11,12 +11,12 @@ use Rattle.cli_messages.specs.declared.answers.Reason.TheVariants.{IdTaken, NoSu
 use Rattle.cli_messages.specs.declared.answers.Refusal.{Refusal}
 use Rattle.cli_messages.specs.Messages.{refusal_of}
 use Rattle.cli_messages.specs.Phases.{StreamAnswer, then_left, with_left}
-use Rattle.cli_needs.specs.declared.command.Command.{Command}
-use Rattle.cli_needs.specs.declared.command.Command.TheVariants.{Ls, Show, History, Search, Add, Edit, Restore, ExportAttachment, ImportAttachment, RemoveAttachment, Move, Remove, MakeGroup, RemoveGroup, Merge, Import, Create, Export, EditFile, Info}
+use Rattle.cli_lines.specs.CliNeeds.declared.command.Command.{Command}
+use Rattle.cli_lines.specs.CliNeeds.declared.command.Command.TheVariants.{Ls, Show, History, Search, Add, Edit, Restore, ExportAttachment, ImportAttachment, RemoveAttachment, Move, Remove, MakeGroup, RemoveGroup, Merge, Import, Create, Export, EditFile, Info}
 use Rattle.outside_core.specs.Results.{◌>>=◌}
 use Rattle.cli_profiles.specs.declared.profiles.PasswordProfile.{PasswordProfile}
 use Rattle.cli_generating.specs.Generated.{generated}
-use Rattle.cli_needs.specs.Needs.{exported_to, generated_by}
+use Rattle.cli_lines.specs.CliNeeds.Needs.{exported_to, generated_by}
 use Rattle.cli_printing.specs.Listing.{group_lines, tree_listed}
 use Rattle.cli_showing.specs.History.{history_shown}
 use Rattle.cli_showing.specs.Showing.{code_shown, entries_shown, entry_shown}
@@ -28,7 +28,7 @@ use Rattle.cli_changes.specs.Ids.{new_id}
 use Rattle.cli_changes.specs.Versions.{after_restore_command}
 use Rattle.cli_changes.specs.Nodes.{after_mkdir, after_mv, after_rm, after_rmdir}
 use Rattle.cli_merging.specs.Merging.{AfterMerge, after_merge}
-use Rattle.cli_writing.specs.Drawing.{draw_of}
+use Rattle.cli_printing.specs.CliWriting.Drawing.{draw_of}
 
 -- What a command makes of its database: what it prints, the document that is written, if one is, and
 -- the bytes of the new file that an attachment is taken out into, if one is.

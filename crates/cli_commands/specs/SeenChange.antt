@@ -1,7 +1,7 @@
 -- What is seen of a command's change in memory.
 use Rattle.std.specs.Prelude.{◌≡◌, ◌++◌, ℕ, Bool, true, false, List, Option, None, Some, Result, Ok, Err, map, option_map}
 use Rattle.std.specs.Borrow.{Bor}
-use Rattle.kdbx_frame.specs.declared.settings.Settings.{Settings}
+use Rattle.cli_lines.specs.KdbxFrame.declared.settings.Settings.{Settings}
 use Rattle.secret_core.specs.Secret.{SecretBuffer}
 use Rattle.vault_model.specs.Tree.{BareDoc}
 use Rattle.cli_messages.specs.declared.answers.Stop.{Stop}

@@ -9,10 +9,10 @@ ghost use Rattle.cli_commands.specs.Commands as spec;
 ghost use Rattle.cli_commands.specs.SeenChange.{IsDrawnBySome};
 
 use cli_changes::new_id;
-use cli_needs::Command;
-use cli_writing::draw_id;
+use cli_changes::tree_moves::needs_bin;
+use cli_lines::cli_needs::Command;
+use cli_printing::cli_writing::draw_id;
 use outside_core::{Dice, DiceFail};
-use tree_moves::needs_bin;
 use uuid_core::Uuid;
 use vault_model::Doc;
 

@@ -5,5 +5,6 @@ mod ids;
 mod output;
 mod performing;
 
+pub use cli_printing::cli_writing;
 pub use output::{Change, Output, lend_text};
 pub use performing::{CommandInput, may_store, may_write, perform};

@@ -15,7 +15,7 @@ ghost use Rattle.std.specs.Str.{is_utf8};
 ghost use Rattle.outside_core.specs.Reports.{StaysTruthful};
 ghost use Rattle.cli_lines.specs.Lines.{AreTextLines, IsTextLine};
 ghost use Rattle.cli_profiles.specs.Profiles.{IsProfile};
-ghost use Rattle.cli_needs.specs.Needs.{generated_by, needs_of};
+ghost use Rattle.cli_lines.specs.CliNeeds.Needs.{generated_by, needs_of};
 ghost use Rattle.cli_printing.specs.Listing.{tree_listed};
 ghost use Rattle.cli_commands.specs.Commands as spec;
 ghost use Rattle.cli_commands.specs.Commands.{change_of, change_with, changed_text, created_change, created_or_refusal, draws_change, imported_text, listing_of, only_reads, passed_lines, rooted_at, text_unless, with_password, with_root_id, writing};
@@ -29,12 +29,12 @@ use cli_changes::{
     export_report, make_group_of, move_node, remove_entry_of, remove_group_of, restore_entry,
 };
 use cli_generating::choose_password;
+use cli_lines::cli_needs::{Command, exported_to};
+use cli_lines::kdbx_frame::Settings;
 use cli_merging::{MergeGiven, merge_into};
 use cli_messages::{Reason, Stop, refused};
-use cli_needs::{Command, exported_to};
 use cli_printing::{Manner, add_group, export, group_listed, info};
 use cli_showing::{CodeGiven, ShowGiven, search_entries, show_code, show_entry, show_history};
-use kdbx_frame::Settings;
 use outside_core::{Bytes, Dice, NoMemory, Text};
 use secret_core::Secret;
 use std::alloc::Global;
@@ -137,7 +137,7 @@ fn given_of<'a>(command: &'a Command, input: CommandInput<'a>) -> Given<'a>
     ensures fields { result.fields ≡ input.entry.fields }
     ensures now { result.now ≡ input.entry.now }
 {
-    let needs = cli_needs::needs_of(command);
+    let needs = cli_lines::cli_needs::needs_of(command);
     Given {
         file: needs.file.as_str(),
         quiet: needs.access.quiet,
@@ -661,7 +661,7 @@ fn change_by<D: Dice>(
     ensures faults { D.faults dice.old ≤ D.faults dice.new }
     ensures faultless { OnOk result (D.faults dice.new ≡ D.faults dice.old) }
 {
-    let Some(profile) = cli_needs::generated_by(command) else {
+    let Some(profile) = cli_lines::cli_needs::generated_by(command) else {
         return change_document(alloc, command, input, id, doc);
     };
     let alphabet = profile.alphabet.as_str().as_bytes();

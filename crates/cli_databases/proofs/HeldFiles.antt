@@ -8,7 +8,7 @@ use Rattle.outside_core.specs.Files.{FileMap}
 use Rattle.key_core.specs.Keys.{composite_key}
 use Rattle.doc_forms.specs.Documents.{DocumentAndHash}
 use Rattle.doc_forms.specs.declared.fails.DocFail.{DocFail}
-use Rattle.kdbx_frame.specs.Fields.{file_limit}
+use Rattle.cli_lines.specs.KdbxFrame.Fields.{file_limit}
 use Rattle.kdbx_open.specs.Files.{bytes_of, opening_of}
 use Rattle.kdbx_open.specs.Opening.{FileContents, opening}
 use Rattle.kdbx_open.specs.Sealed.{Sealed}

@@ -5,3 +5,4 @@ pub mod Phases
 pub mod Refusals
 pub mod SomeOpened
 pub mod Sources
+pub use Rattle.cli_files.proofs as CliFiles

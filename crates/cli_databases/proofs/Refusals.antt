@@ -5,7 +5,7 @@ use Rattle.outside_core.specs.Files.{FileMap}
 use Rattle.outside_core.specs.Results.{Fails}
 use Rattle.secret_core.specs.declared.files.ReadFail.TheVariants as read
 use Rattle.doc_forms.specs.declared.fails.DocFail.TheVariants as doc
-use Rattle.kdbx_parts.specs.declared.fail.FrameFail.TheVariants as frame
+use Rattle.cli_needs.specs.KdbxParts.declared.fail.FrameFail.TheVariants as frame
 use Rattle.kdbx_open.specs.Files.{opening_of}
 use Rattle.kdbx_open.specs.Results.{meaning_from_store}
 use Rattle.kdbx_open.specs.declared.fail.OpenFail.{OpenFail}

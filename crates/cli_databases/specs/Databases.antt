@@ -11,8 +11,8 @@ use Rattle.mac_core.specs.declared.fail.BlockFail.TheVariants as block
 use Rattle.vault_model.specs.Tree.{BareDoc}
 use Rattle.doc_forms.specs.Documents.{DocumentAndHash}
 use Rattle.doc_forms.specs.declared.fails.DocFail.{DocFail}
-use Rattle.kdbx_parts.specs.declared.fail.FrameFail.{FrameFail}
-use Rattle.kdbx_parts.specs.declared.fail.FrameFail.TheVariants as frame
+use Rattle.cli_needs.specs.KdbxParts.declared.fail.FrameFail.{FrameFail}
+use Rattle.cli_needs.specs.KdbxParts.declared.fail.FrameFail.TheVariants as frame
 use Rattle.kdbx_open.specs.declared.fail.OpenFail.{OpenFail}
 use Rattle.kdbx_open.specs.declared.fail.OpenFail.TheVariants as sealed
 use Rattle.kdbx_open.specs.Files.{opening_of}

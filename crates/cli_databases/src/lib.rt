@@ -4,4 +4,5 @@
 mod databases;
 mod plain;
 
+pub use cli_files;
 pub use databases::{Databases, open, open_sealed};

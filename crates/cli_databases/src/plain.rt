@@ -1,6 +1,6 @@
 //! The database that a plain document is.
 ghost use Rattle.std.specs.Prelude.{◌≡◌, [], IfErr, IfOk, IfSome, None};
-ghost use Rattle.kdbx_frame.specs.Settings.{IsInOrder};
+ghost use Rattle.cli_lines.specs.KdbxFrame.Settings.{IsInOrder};
 ghost use Rattle.cli_messages.specs.Phases.{IsPlainStop, Returns};
 ghost use Rattle.cli_files.specs.Files.{plain_document};
 ghost use Rattle.cli_files.specs.SeenOpened.{opened_seen};
@@ -8,9 +8,9 @@ ghost use Rattle.cli_databases.specs.Databases.{document_or_refusal};
 ghost use Rattle.cli_databases.specs.NoDocument.{IsNoDocument};
 ghost use Rattle.cli_databases.specs.SomeFiles.{SomePlain};
 
+use cli_files::doc_read::{DocFail, ReadDoc};
 use cli_files::{Opened, document_answer, read_plain};
 use cli_messages::{Stop, refused};
-use doc_read::{DocFail, ReadDoc};
 use outside_core::List;
 use secret_core::Secret;
 use std::alloc::Global;

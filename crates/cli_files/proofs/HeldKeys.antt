@@ -4,9 +4,9 @@ use Rattle.std.proofs.lemmas.Bool.{le-leb, leb-true}
 use Rattle.std.specs.FinMap as finmap
 use Rattle.outside_core.specs.Files.{FileMap}
 use Rattle.outside_core.specs.Results.{◌>>=◌}
-use Rattle.key_core.specs.KeyFile.{key_file_key}
-use Rattle.key_core.specs.declared.key_file.KeyFileFail.{KeyFileFail}
-use Rattle.kdbx_frame.specs.Fields.{file_limit}
+use Rattle.cli_lines.specs.KeyCore.KeyFile.{key_file_key}
+use Rattle.cli_lines.specs.KeyCore.declared.key_file.KeyFileFail.{KeyFileFail}
+use Rattle.cli_lines.specs.KdbxFrame.Fields.{file_limit}
 use Rattle.cli_messages.specs.Messages.{refusal_of}
 use Rattle.cli_messages.specs.declared.answers.Reason.TheVariants.{TooLarge}
 use Rattle.cli_messages.specs.declared.answers.Refusal.{Refusal}

@@ -1,2 +1,3 @@
 pub mod FileStops
 pub mod HeldKeys
+pub use Rattle.doc_read.proofs as DocRead

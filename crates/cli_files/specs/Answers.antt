@@ -2,8 +2,8 @@
 use Rattle.std.specs.Prelude.{ℕ, List}
 use Rattle.secret_core.specs.declared.files.ReadFail.{ReadFail}
 use Rattle.secret_core.specs.declared.files.ReadFail.TheVariants as read
-use Rattle.key_core.specs.declared.key_file.KeyFileFail.{KeyFileFail}
-use Rattle.key_core.specs.declared.key_file.KeyFileFail.TheVariants as key
+use Rattle.cli_lines.specs.KeyCore.declared.key_file.KeyFileFail.{KeyFileFail}
+use Rattle.cli_lines.specs.KeyCore.declared.key_file.KeyFileFail.TheVariants as key
 use Rattle.doc_forms.specs.declared.fails.DocFail.{DocFail}
 use Rattle.doc_forms.specs.declared.fails.DocFail.TheVariants as doc
 use Rattle.cli_messages.specs.Messages.{refusal_of, Refuses}

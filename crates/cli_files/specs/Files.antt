@@ -3,15 +3,15 @@ use Rattle.std.specs.Prelude.{ℕ, List, [], length, nat_le, cond, Option, None,
 use Rattle.std.specs.FinMap as map
 use Rattle.outside_core.specs.Files.{FileMap}
 use Rattle.outside_core.specs.Results.{◌>>=◌}
-use Rattle.key_core.specs.KeyFile.{key_file_key}
-use Rattle.key_core.specs.declared.key_file.KeyFileFail.{KeyFileFail}
+use Rattle.cli_lines.specs.KeyCore.KeyFile.{key_file_key}
+use Rattle.cli_lines.specs.KeyCore.declared.key_file.KeyFileFail.{KeyFileFail}
 use Rattle.stream_core.specs.InnerStream.{NoKeystream}
 use Rattle.vault_model.specs.Tree.{BareDoc}
 use Rattle.vault_model.specs.declared.forms.DocForm.TheVariants.{Plain}
 use Rattle.doc_forms.specs.Documents.{DocumentAndHash, document}
 use Rattle.doc_forms.specs.declared.fails.DocFail.{DocFail}
-use Rattle.kdbx_frame.specs.Fields.{file_limit}
-use Rattle.kdbx_frame.specs.declared.sealings.Sealing.{Sealing}
+use Rattle.cli_lines.specs.KdbxFrame.Fields.{file_limit}
+use Rattle.cli_lines.specs.KdbxFrame.declared.sealings.Sealing.{Sealing}
 use Rattle.cli_messages.specs.Messages.{refusal_of}
 use Rattle.cli_messages.specs.declared.answers.Reason.TheVariants.{NoSuchFile, TooLarge}
 use Rattle.cli_messages.specs.declared.answers.Refusal.{Refusal}

@@ -2,8 +2,8 @@
 use Rattle.std.specs.Prelude.{◌≡◌, ◌≤◌, ℕ, List, length, Option, None, Some, Ok}
 use Rattle.std.specs.FinMap as map
 use Rattle.outside_core.specs.Files.{FileMap}
-use Rattle.key_core.specs.KeyFile.{key_file_key}
-use Rattle.kdbx_frame.specs.Fields.{file_limit}
+use Rattle.cli_lines.specs.KeyCore.KeyFile.{key_file_key}
+use Rattle.cli_lines.specs.KdbxFrame.Fields.{file_limit}
 
 -- The file of this name is there and within the limit, and these are its bytes.
 pub record IsThere (files : FileMap) (name bytes : List ℕ) : Type 0 where

@@ -1,6 +1,6 @@
 -- That some bytes are a key file, whatever the store reports and answered.
 use Rattle.std.specs.Prelude.{◌≡◌, ℕ, List, Option, None, Some, Ok}
-use Rattle.key_core.specs.KeyFile.{key_file_key}
+use Rattle.cli_lines.specs.KeyCore.KeyFile.{key_file_key}
 
 -- Some bytes are a key file that gives this key.
 abbrev pub IsSomeKey : List ℕ → Type 0

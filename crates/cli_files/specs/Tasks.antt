@@ -3,8 +3,8 @@
 use Rattle.std.specs.Prelude.{◌&&◌, ◌||◌, ℕ, is_some, Bool, true, false, not, List, Option, Result, Ok, Err}
 use Rattle.vault_model.specs.Tree.{BareDoc}
 use Rattle.cli_messages.specs.declared.answers.Refusal.{Refusal}
-use Rattle.cli_needs.specs.declared.command.Command.{Command}
-use Rattle.cli_needs.specs.declared.command.Command.TheVariants.{Ls, Show, History, Search, Add, Edit, Restore, ExportAttachment, ImportAttachment, RemoveAttachment, Move, Remove, MakeGroup, RemoveGroup, Merge, Import, Create, Export, EditFile, Info}
+use Rattle.cli_lines.specs.CliNeeds.declared.command.Command.{Command}
+use Rattle.cli_lines.specs.CliNeeds.declared.command.Command.TheVariants.{Ls, Show, History, Search, Add, Edit, Restore, ExportAttachment, ImportAttachment, RemoveAttachment, Move, Remove, MakeGroup, RemoveGroup, Merge, Import, Create, Export, EditFile, Info}
 use Rattle.cli_lines.specs.Lines.{Lines}
 use Rattle.cli_files.specs.Files.{Databases, Opened}
 

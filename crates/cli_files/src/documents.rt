@@ -5,9 +5,9 @@ ghost use Rattle.doc_forms.specs.SeenDocuments.{read_seen};
 ghost use Rattle.cli_files.specs.Answers as spec;
 ghost use Rattle.cli_files.specs.Files.{plain_document};
 
+use cli_lines::kdbx_frame::Sealing;
 use cli_messages::Reason;
 use doc_read::{DocFail, ReadDoc, read_parts, resolve};
-use kdbx_frame::Sealing;
 use outside_core::{List, Text};
 use secret_core::Secret;
 use std::alloc::Global;

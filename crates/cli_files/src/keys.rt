@@ -3,9 +3,9 @@ ghost use Rattle.std.specs.Prelude.{◌≡◌, ◌≢◌, [], ◌∷◌, IfErr, 
 ghost use Rattle.std.specs.FinMap as finmap;
 ghost use Rattle.outside_core.specs.Files.{FileMap};
 ghost use Rattle.outside_core.specs.Reports.{reported};
-ghost use Rattle.key_core.specs.KeyFile.{key_file_key};
+ghost use Rattle.cli_lines.specs.KeyCore.KeyFile.{key_file_key};
 ghost use Rattle.cli_messages.specs.Phases.{IsFileStop, IsPlainStop, Returns};
-ghost use Rattle.cli_needs.specs.Needs.{key_files};
+ghost use Rattle.cli_lines.specs.CliNeeds.Needs.{key_files};
 ghost use Rattle.cli_files.specs.Answers as answer;
 ghost use Rattle.cli_files.specs.Files as spec;
 ghost use Rattle.cli_files.specs.Files.{key_in, key_or_refusal};
@@ -13,9 +13,9 @@ ghost use Rattle.cli_files.specs.LeavesFiles.{LeavesFiles};
 ghost use Rattle.cli_files.specs.SomeFiles.{IsSomeKey, SomeKey};
 
 use crate::stops::unread;
+use cli_lines::kdbx_frame::FILE_LIMIT;
+use cli_lines::key_core::{KeyFileFail, read_key_file};
 use cli_messages::{Reason, Stop, refused};
-use kdbx_frame::FILE_LIMIT;
-use key_core::{KeyFileFail, read_key_file};
 use outside_core::FileStore;
 use secret_core::{Key, Secret, read_file};
 use std::alloc::Global;

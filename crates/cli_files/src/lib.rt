@@ -8,6 +8,7 @@ mod keys;
 mod stops;
 mod task;
 
+pub use doc_read;
 pub use documents::{Opened, document_answer, read_plain};
 pub use given::{bytes_in, name_in};
 pub use keys::key_of;

@@ -1,7 +1,7 @@
 //! What a call is to do.
 use crate::Opened;
 use cli_lines::Lines;
-use cli_needs::Command;
+use cli_lines::cli_needs::Command;
 use outside_core::List;
 use secret_core::Secret;
 use std::rc::Rc;

@@ -19,10 +19,10 @@ ghost use Rattle.cli_importing.specs.Imports.{bitwarden_or_refusal, given_passwo
 
 use bitwarden_core::import_bitwarden;
 use bitwarden_forms::BitwardenFail;
+use cli_files::doc_read::{DocFail, ReadDoc};
 use cli_files::{document_answer, read_plain, unread};
 use cli_messages::{Reason, Stop, refused};
 use cli_needs::{ImportFormat, ImportNeeds};
-use doc_read::{DocFail, ReadDoc};
 use kdbx_frame::FILE_LIMIT;
 use outside_core::{FileStore, List, Text};
 use psafe_core::import_psafe;

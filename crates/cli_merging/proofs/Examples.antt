@@ -8,7 +8,7 @@ use Rattle.vault_model.specs.Empty.{empty_bare, new_group}
 use Rattle.vault_model.specs.Orders.{association_cmp, attachment_cmp, auto_type_cmp, content_cmp, field_cmp, item_cmp}
 use Rattle.vault_model.specs.Shape.{BareVersion}
 use Rattle.vault_model.specs.Tree.{BareDoc, node, none}
-use Rattle.doc_spelling.specs.Moments.{moment_at, month_from, year_from}
+use Rattle.merge_details.specs.DocSpelling.Moments.{moment_at, month_from, year_from}
 use Rattle.merge_changes.specs.declared.changes.Change.{Change}
 use Rattle.merge_changes.specs.declared.changes.Change.TheVariants.{Deleted, Moved, Updated}
 use Rattle.merge_changes.specs.declared.changes.Kind.TheVariants.{Entry}

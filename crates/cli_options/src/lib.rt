@@ -17,6 +17,7 @@ pub use credentials::{is_fit_change, is_fit_new, is_whole};
 pub use forms::{CommandOption, OPTIONS, has_value, is_repeatable, place_of};
 pub use names::{CommandName, command_named};
 pub use numbers::number_of;
+pub use outside_core;
 pub use reading::{ReadWords, lend_said, read_after_name};
 pub use said::{
     GivenTexts, ReadingState, RepeatedText, SaidWords, WordsFail, add_position, copies_of, copy_of,

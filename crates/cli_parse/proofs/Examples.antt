@@ -11,7 +11,7 @@ use Rattle.cli_needs.specs.declared.command.Command.TheVariants.{Ls, Show, Histo
 use Rattle.cli_needs.specs.declared.command.KdfKind.TheVariants as kdf
 use Rattle.cli_needs.specs.declared.command.KeyFileChange.TheVariants as key_file
 use Rattle.cli_needs.specs.declared.command.PasswordChange.TheVariants as password
-use Rattle.kdbx_frame.specs.declared.settings.Cipher.TheVariants as cipher
+use Rattle.cli_needs.specs.KdbxFrame.declared.settings.Cipher.TheVariants as cipher
 use Rattle.vault_model.specs.declared.forms.FileVersion.TheVariants.{V41}
 use Rattle.cli_needs.specs.declared.command.ExportFormat.TheVariants.{Csv}
 use Rattle.cli_needs.specs.declared.command.ImportFormat.TheVariants as import_format

@@ -21,7 +21,7 @@ use Rattle.cli_needs.specs.Needs.{HasKey, HasKeyAfter, HasKeys, asks_password, g
 use Rattle.cli_parse.specs.Settings.{change_in, change_with, cipher_in, has_file_change, kdf_in, key_file_change, key_file_with, password_change, version_in}
 use Rattle.cli_needs.specs.declared.command.PasswordChange.TheVariants as password
 use Rattle.vault_model.specs.declared.forms.FileVersion.{FileVersion}
-use Rattle.kdbx_frame.specs.declared.settings.Cipher.{Cipher}
+use Rattle.cli_needs.specs.KdbxFrame.declared.settings.Cipher.{Cipher}
 use Rattle.cli_options.specs.Options.{command_named}
 use Rattle.cli_needs.specs.declared.command.ExportFormat.{ExportFormat}
 use Rattle.cli_needs.specs.declared.command.ImportFormat.{ImportFormat}

@@ -1,3 +1,4 @@
 pub mod Fields
 pub mod Settings
 pub mod Words
+pub use Rattle.cli_needs.specs as CliNeeds

@@ -13,8 +13,8 @@ use Rattle.cli_needs.specs.declared.command.KeyFileChange.{KeyFileChange}
 use Rattle.cli_needs.specs.declared.command.KeyFileChange.TheVariants as key_file
 use Rattle.cli_needs.specs.declared.command.PasswordChange.{PasswordChange}
 use Rattle.cli_needs.specs.declared.command.PasswordChange.TheVariants as password
-use Rattle.kdbx_frame.specs.declared.settings.Cipher.{Cipher}
-use Rattle.kdbx_frame.specs.declared.settings.Cipher.TheVariants as cipher
+use Rattle.cli_needs.specs.KdbxFrame.declared.settings.Cipher.{Cipher}
+use Rattle.cli_needs.specs.KdbxFrame.declared.settings.Cipher.TheVariants as cipher
 use Rattle.vault_model.specs.declared.forms.FileVersion.{FileVersion}
 use Rattle.vault_model.specs.declared.forms.FileVersion.TheVariants.{V31, V40, V41}
 

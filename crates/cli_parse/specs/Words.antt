@@ -26,7 +26,7 @@ use Rattle.cli_options.specs.Said.{Said, is_given, nothing_said, text_of, texts_
 use Rattle.cli_parse.specs.Fields.{further_of}
 use Rattle.cli_parse.specs.Settings.{change_in, cipher_in, has_file_change, kdf_in}
 use Rattle.cli_needs.specs.declared.command.KdfAsked.{KdfAsked}
-use Rattle.kdbx_frame.specs.declared.settings.Cipher.{Cipher}
+use Rattle.cli_needs.specs.KdbxFrame.declared.settings.Cipher.{Cipher}
 
 -- How a database is opened.
 abbrev pub access_of : Said → Access

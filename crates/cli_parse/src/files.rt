@@ -5,11 +5,11 @@ ghost use Rattle.cli_parse.specs.Words as spec;
 
 use crate::bases::{access_new, base_of, base_with};
 use crate::settings::{change_in, cipher_in, has_file_change, kdf_in};
+use cli_needs::kdbx_frame::Cipher;
 use cli_needs::{Access, Command, KdfAsked};
 use cli_options::{
     CommandOption, SaidWords, WordsFail, copy_of, is_fit_change, is_fit_new, is_given, text_of,
 };
-use kdbx_frame::Cipher;
 use outside_core::{NoMemory, Text};
 use std::alloc::Global;
 

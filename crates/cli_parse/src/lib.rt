@@ -11,6 +11,7 @@ pub mod laws;
 mod settings;
 
 pub use bases::access_of;
+pub use cli_needs;
 pub use commands::{command_saying, format_named, import_format_named, read_words};
 pub use entries::{has_change, version_numbered};
 pub use fields::{expiry_named, is_own_name};

@@ -3,9 +3,9 @@ ghost use Rattle.std.specs.Prelude.{◌≡◌, IfOk};
 ghost use Rattle.cli_options.specs.SaidWords.{Gives, said_seen, text_seen};
 ghost use Rattle.cli_parse.specs.Settings as spec;
 
+use cli_needs::kdbx_frame::{Cipher, FileVersion};
 use cli_needs::{FileChange, KdfAsked, KdfKind, KeyFileChange, PasswordChange};
 use cli_options::{CommandOption, SaidWords, WordsFail, is_given, number_of, text_of};
-use kdbx_frame::{Cipher, FileVersion};
 use outside_core::{NoMemory, Text};
 use std::alloc::Global;
 

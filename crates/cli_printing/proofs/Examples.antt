@@ -3,9 +3,9 @@ use Rattle.std.proofs.Common.{◌≡◌, ℕ, true, false, List, [], ◌∷◌, 
 use Rattle.std.specs.Fmt.{digits}
 use Rattle.uuid.specs.Text.{by_index}
 use Rattle.argon_core.specs.declared.params.ArgonKind.TheVariants.{D}
-use Rattle.kdbx_frame.specs.declared.settings.Cipher.TheVariants as cipher
-use Rattle.kdbx_frame.specs.declared.settings.Settings.{Settings}
-use Rattle.key_core.specs.declared.kdf.Kdf.TheVariants as kdf
+use Rattle.cli_needs.specs.KdbxFrame.declared.settings.Cipher.TheVariants as cipher
+use Rattle.cli_needs.specs.KdbxFrame.declared.settings.Settings.{Settings}
+use Rattle.cli_needs.specs.KeyCore.declared.kdf.Kdf.TheVariants as kdf
 use Rattle.vault_model.specs.Db.{NodeId, nil_id}
 use Rattle.vault_model.specs.Empty.{new_group, new_meta}
 use Rattle.vault_model.specs.Shape.{BareVersion, EntryRecord}

@@ -5,8 +5,8 @@ use Rattle.cli_messages.specs.declared.answers.Refusal.{Refusal}
 use Rattle.cli_needs.specs.declared.command.ExportFormat.{ExportFormat}
 use Rattle.cli_needs.specs.declared.command.ExportFormat.TheVariants.{Csv, Xml}
 use Rattle.cli_writing.specs.Writing.{write_answer}
-use Rattle.doc_write.specs.Written.{write_outcome}
-use Rattle.doc_write.specs.declared.writing.WriteFail.{WriteFail}
+use Rattle.cli_writing.specs.DocWrite.Written.{write_outcome}
+use Rattle.cli_writing.specs.DocWrite.declared.writing.WriteFail.{WriteFail}
 use Rattle.stream_core.specs.InnerStream.{NoKeystream}
 use Rattle.table_core.specs.Rows.{table_of}
 use Rattle.vault_model.specs.Tree.{BareDoc}

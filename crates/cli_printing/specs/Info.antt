@@ -3,11 +3,11 @@ use Rattle.std.specs.Prelude.{ℕ, ◌/◌, Bool, true, false, List, ◌++◌, c
 use Rattle.std.specs.Fmt.{decimal}
 use Rattle.argon_core.specs.declared.params.ArgonKind.{ArgonKind}
 use Rattle.argon_core.specs.declared.params.ArgonKind.TheVariants.{D, Id}
-use Rattle.kdbx_frame.specs.declared.settings.Cipher.{Cipher}
-use Rattle.kdbx_frame.specs.declared.settings.Cipher.TheVariants as cipher
-use Rattle.kdbx_frame.specs.declared.settings.Settings.{Settings}
-use Rattle.key_core.specs.declared.kdf.Kdf.{Kdf}
-use Rattle.key_core.specs.declared.kdf.Kdf.TheVariants as kdf
+use Rattle.cli_needs.specs.KdbxFrame.declared.settings.Cipher.{Cipher}
+use Rattle.cli_needs.specs.KdbxFrame.declared.settings.Cipher.TheVariants as cipher
+use Rattle.cli_needs.specs.KdbxFrame.declared.settings.Settings.{Settings}
+use Rattle.cli_needs.specs.KeyCore.declared.kdf.Kdf.{Kdf}
+use Rattle.cli_needs.specs.KeyCore.declared.kdf.Kdf.TheVariants as kdf
 use Rattle.vault_model.specs.Tree.{BareDoc, entry_rows, group_rows}
 use Rattle.vault_model.specs.declared.forms.FileVersion.{FileVersion}
 use Rattle.vault_model.specs.declared.forms.FileVersion.TheVariants.{V31, V40, V41}

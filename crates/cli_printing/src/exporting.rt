@@ -2,7 +2,7 @@
 ghost use Rattle.std.specs.Prelude.{◌≡◌, IfErr, IfOk, None};
 ghost use Rattle.cli_messages.specs.Phases.{IsPlainStop, Returns};
 ghost use Rattle.cli_printing.specs.Exporting.{exported, text_or_refusal};
-ghost use Rattle.doc_write.specs.Written.{write_outcome};
+ghost use Rattle.cli_writing.specs.DocWrite.Written.{write_outcome};
 ghost use Rattle.stream_core.specs.InnerStream.{NoKeystream};
 ghost use Rattle.vault_model.specs.SeenDoc.{doc_seen};
 ghost use Rattle.vault_model.specs.declared.forms.DocForm.TheVariants.{Plain};

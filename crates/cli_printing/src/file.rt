@@ -6,8 +6,8 @@ ghost use Rattle.cli_printing.specs.Info as spec;
 ghost use Rattle.cli_printing.specs.Info.{file_lines, kdf_text, line, plain_lines, settings_lines};
 
 use argon_core::ArgonKind;
-use kdbx_frame::{Cipher, Settings};
-use key_core::Kdf;
+use cli_needs::kdbx_frame::{Cipher, Settings};
+use cli_needs::key_core::Kdf;
 use outside_core::{Bytes, NoMemory};
 use std::alloc::{AllocError, Global};
 use vault_model::FileVersion;

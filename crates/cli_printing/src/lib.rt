@@ -9,6 +9,7 @@ pub mod laws;
 mod lines;
 mod listing;
 
+pub use cli_writing;
 pub use exporting::export;
 pub use lines::info;
 pub use listing::{Manner, add_group, group_listed};

@@ -10,7 +10,7 @@ ghost use Rattle.vault_model.specs.SeenDoc.{doc_seen};
 use crate::counts::{count_entries, count_groups};
 use crate::file::{add_file_lines, add_line};
 use cli_messages::Stop;
-use kdbx_frame::Settings;
+use cli_needs::kdbx_frame::Settings;
 use outside_core::{Bytes, NoMemory};
 use secret_core::Secret;
 use std::alloc::Global;

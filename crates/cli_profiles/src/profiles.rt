@@ -3,8 +3,8 @@ ghost use Rattle.std.specs.Prelude.{◌≡◌, IfOk};
 ghost use Rattle.cli_options.specs.SaidWords.{Gives, said_seen, text_seen};
 ghost use Rattle.cli_profiles.specs.Profiles as spec;
 
+use cli_options::outside_core::{NoMemory, Text};
 use cli_options::{CommandOption, SaidWords, WordsFail, is_given, number_of, text_of};
-use outside_core::{NoMemory, Text};
 use std::alloc::Global;
 
 /// How a password is generated: of so many characters, each one of this alphabet.

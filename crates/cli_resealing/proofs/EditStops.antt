@@ -3,7 +3,7 @@ use Rattle.std.proofs.Common.{◌≡◌, ◌≤◌, ℕ, List, [], ◌∷◌, �
 use Rattle.std.specs.Prelude.{IfErr}
 use Rattle.cli_messages.specs.Phases.{IsFileStop}
 use Rattle.cli_messages.specs.declared.answers.Stop.{Stop}
-use Rattle.cli_files.proofs.FileStops.{first_at_files, later_at_files}
+use Rattle.cli_databases.proofs.CliFiles.FileStops.{first_at_files, later_at_files}
 
 -- A stop at the new key file, after the database was opened.
 pub stops_changed : {X : Type 0} (result : Result X Stop) (own new : List (List ℕ)) (f f' f'' g a a' a'' b : ℕ) → f ≤ f' → f' ≤ f'' → a ≤ a' → a' ≤ a''

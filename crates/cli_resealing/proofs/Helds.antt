@@ -12,9 +12,9 @@ use Rattle.cli_needs.specs.declared.command.FileChange.{FileChange}
 use Rattle.cli_needs.specs.declared.command.KeyFileChange.{KeyFileChange}
 use Rattle.cli_needs.specs.declared.command.KeyFileChange.TheVariants as key_file
 use Rattle.cli_lines.specs.Lines.{Lines}
-use Rattle.cli_files.specs.Files.{Opened, key_of}
-use Rattle.cli_files.specs.Held.{GivesKey}
-use Rattle.cli_files.proofs.HeldKeys.{in_turn, key_given, key_held}
+use Rattle.cli_databases.specs.CliFiles.Files.{Opened, key_of}
+use Rattle.cli_databases.specs.CliFiles.Held.{GivesKey}
+use Rattle.cli_databases.proofs.CliFiles.HeldKeys.{in_turn, key_given, key_held}
 use Rattle.cli_databases.specs.Databases.{sealed_in}
 use Rattle.cli_databases.specs.Held.{IsSealed}
 use Rattle.cli_databases.proofs.HeldFiles.{database_given, database_held}

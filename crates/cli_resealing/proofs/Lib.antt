@@ -5,3 +5,6 @@ mod Named
 mod Phases
 pub mod Sealed
 mod Somes
+pub use Rattle.cli_databases.proofs as CliDatabases
+pub use Rattle.cli_databases.proofs.CliFiles
+pub use Rattle.cli_importing.proofs as CliImporting

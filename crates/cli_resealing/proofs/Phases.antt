@@ -12,9 +12,9 @@ use Rattle.cli_messages.specs.declared.answers.Stop.{Stop}
 use Rattle.cli_needs.specs.Needs.{CreateNeeds, Needs}
 use Rattle.cli_needs.specs.declared.command.FileChange.{FileChange}
 use Rattle.cli_lines.specs.Lines.{Lines}
-use Rattle.cli_files.specs.Files.{Opened, key_of}
-use Rattle.cli_files.specs.SeenOpened.{opened_seen}
-use Rattle.cli_files.specs.declared.documents.Opened as memory
+use Rattle.cli_databases.specs.CliFiles.Files.{Opened, key_of}
+use Rattle.cli_databases.specs.CliFiles.SeenOpened.{opened_seen}
+use Rattle.cli_databases.specs.CliFiles.declared.documents.Opened as memory
 use Rattle.cli_databases.specs.Databases.{sealed_in}
 use Rattle.cli_databases.proofs.Phases.{stops_both}
 use Rattle.cli_importing.specs.Imports.{at_stamp, refuse_file, sealing_of}

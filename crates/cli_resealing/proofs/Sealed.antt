@@ -10,7 +10,7 @@ use Rattle.cli_messages.specs.declared.answers.Refusal.{Refusal}
 use Rattle.cli_needs.specs.Needs.{CreateNeeds, Needs}
 use Rattle.cli_needs.specs.declared.command.FileChange.{FileChange}
 use Rattle.cli_lines.specs.Lines.{Lines}
-use Rattle.cli_files.specs.Files.{Opened}
+use Rattle.cli_databases.specs.CliFiles.Files.{Opened}
 use Rattle.cli_importing.proofs.Sealings.{sealed_anew}
 use Rattle.cli_resealing.specs.Asked.{asked_settings, resealed, with_resealed, with_settings}
 use Rattle.cli_resealing.specs.Edited.{key_made, settings_in, under_key}

@@ -12,10 +12,10 @@ use Rattle.cli_needs.specs.Needs.{CreateNeeds, Needs}
 use Rattle.cli_needs.specs.declared.command.FileChange.{FileChange}
 use Rattle.cli_needs.specs.declared.command.KdfAsked.{KdfAsked}
 use Rattle.cli_lines.specs.Lines.{Lines}
-use Rattle.cli_files.specs.Files.{Opened}
-use Rattle.cli_files.specs.SeenOpened.{opened_seen}
-use Rattle.cli_files.specs.SomeFiles.{SomeKey}
-use Rattle.cli_files.specs.declared.documents.Opened as memory
+use Rattle.cli_databases.specs.CliFiles.Files.{Opened}
+use Rattle.cli_databases.specs.CliFiles.SeenOpened.{opened_seen}
+use Rattle.cli_databases.specs.CliFiles.SomeFiles.{SomeKey}
+use Rattle.cli_databases.specs.CliFiles.declared.documents.Opened as memory
 use Rattle.cli_databases.specs.SomeFiles.{IsSealedUnder}
 use Rattle.cli_importing.specs.Held.{SomeSealing}
 use Rattle.cli_importing.specs.Imports.{at_stamp}

@@ -23,7 +23,7 @@ use Rattle.cli_messages.specs.declared.answers.NeededVersion.TheVariants as need
 use Rattle.cli_messages.specs.declared.answers.Reason.{Reason}
 use Rattle.cli_messages.specs.declared.answers.Reason.TheVariants as answer
 use Rattle.cli_messages.specs.declared.answers.Refusal.{Refusal}
-use Rattle.cli_files.specs.Files.{Opened}
+use Rattle.cli_databases.specs.CliFiles.Files.{Opened}
 use Rattle.cli_needs.specs.declared.command.KdfAsked.{KdfAsked}
 use Rattle.cli_needs.specs.declared.command.KdfKind.{KdfKind}
 use Rattle.cli_needs.specs.declared.command.KdfKind.TheVariants as kind

@@ -9,7 +9,7 @@ use Rattle.vault_model.specs.Tree.{BareDoc, node, none}
 use Rattle.cli_messages.specs.declared.answers.Refusal.{Refusal}
 use Rattle.cli_needs.specs.Needs.{CreateNeeds}
 use Rattle.cli_lines.specs.Lines.{Lines}
-use Rattle.cli_files.specs.Files.{Opened}
+use Rattle.cli_databases.specs.CliFiles.Files.{Opened}
 use Rattle.cli_importing.specs.Imports.{at_stamp, refuse_file, sealing_of}
 use Rattle.cli_resealing.specs.Asked.{asked_settings, with_resealed}
 

@@ -12,7 +12,7 @@ use Rattle.cli_needs.specs.declared.command.KeyFileChange.TheVariants as key_fil
 use Rattle.cli_needs.specs.declared.command.PasswordChange.{PasswordChange}
 use Rattle.cli_needs.specs.declared.command.PasswordChange.TheVariants as password
 use Rattle.cli_lines.specs.Lines.{Lines}
-use Rattle.cli_files.specs.Files.{Opened, key_of}
+use Rattle.cli_databases.specs.CliFiles.Files.{Opened, key_of}
 use Rattle.cli_databases.specs.Databases.{sealed_in}
 use Rattle.cli_resealing.specs.Asked.{asked_settings, with_resealed}
 

@@ -9,9 +9,9 @@ use Rattle.cli_needs.specs.declared.command.FileChange.{FileChange}
 use Rattle.cli_needs.specs.declared.command.KeyFileChange.{KeyFileChange}
 use Rattle.cli_needs.specs.declared.command.KeyFileChange.TheVariants as key_file
 use Rattle.cli_lines.specs.Lines.{Lines}
-use Rattle.cli_files.specs.Files.{Opened}
-use Rattle.cli_files.specs.Held.{GivesKey}
-use Rattle.cli_files.specs.SomeFiles.{SomeKey}
+use Rattle.cli_databases.specs.CliFiles.Files.{Opened}
+use Rattle.cli_databases.specs.CliFiles.Held.{GivesKey}
+use Rattle.cli_databases.specs.CliFiles.SomeFiles.{SomeKey}
 use Rattle.cli_databases.specs.Held.{IsSealed}
 use Rattle.cli_databases.specs.SomeFiles.{SomeSealed}
 use Rattle.cli_importing.specs.Held.{IsSealingBy, SomeSealing}

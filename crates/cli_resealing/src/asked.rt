@@ -3,12 +3,12 @@ ghost use Rattle.std.specs.Prelude.{◌≡◌, ◌*◌, [], IfErr, IfOk, IfSome,
 ghost use Rattle.vault_model.specs.SeenDoc.{doc_seen};
 ghost use Rattle.kdbx_frame.specs.Settings.{IsInOrder};
 ghost use Rattle.cli_messages.specs.Phases.{IsPlainStop, Returns};
-ghost use Rattle.cli_files.specs.SeenOpened.{opened_seen};
+ghost use Rattle.cli_databases.specs.CliFiles.SeenOpened.{opened_seen};
 ghost use Rattle.cli_resealing.specs.Asked as spec;
 ghost use Rattle.cli_resealing.specs.Asked.{AsksFor, IsOrPasses, StandsFor, asked_settings, derivation_of, resealed, with_resealed};
 
 use argon_core::ArgonKind;
-use cli_files::Opened;
+use cli_databases::cli_files::Opened;
 use cli_messages::{NeededVersion, Reason, Stop, refused};
 use cli_needs::{KdfAsked, KdfKind};
 use kdbx_frame::{Cipher, FileVersion, Sealing, release_key};

@@ -8,8 +8,8 @@ ghost use Rattle.vault_model.specs.SeenNodes.{tree_seen};
 ghost use Rattle.vault_model.specs.Tree.{node, none};
 ghost use Rattle.kdbx_frame.specs.Settings.{IsInOrder};
 ghost use Rattle.cli_messages.specs.Phases.{IsFileStop, IsPlainStop, Returns};
-ghost use Rattle.cli_files.specs.LeavesFiles.{LeavesFiles};
-ghost use Rattle.cli_files.specs.SeenOpened.{opened_seen};
+ghost use Rattle.cli_databases.specs.CliFiles.LeavesFiles.{LeavesFiles};
+ghost use Rattle.cli_databases.specs.CliFiles.SeenOpened.{opened_seen};
 ghost use Rattle.cli_importing.specs.Imports.{at_stamp};
 ghost use Rattle.cli_lines.specs.Lines.{CanOpen};
 ghost use Rattle.cli_lines.specs.SeenLines.{line_seen, lines_seen};
@@ -19,7 +19,7 @@ ghost use Rattle.cli_resealing.specs.Created.{created_of, empty_document, undraw
 ghost use Rattle.cli_resealing.specs.Held.{SomeCreated};
 
 use crate::asked::{AskedSettings, with_asked};
-use cli_files::{Opened, bytes_in};
+use cli_databases::cli_files::{Opened, bytes_in};
 use cli_importing::{new_sealing, refuse_existing};
 use cli_lines::Lines;
 use cli_messages::{Reason, Stop, refused};

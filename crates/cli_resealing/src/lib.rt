@@ -6,5 +6,8 @@ mod asked;
 mod creating;
 mod editing;
 
+pub use cli_databases;
+pub use cli_databases::cli_files;
+pub use cli_importing;
 pub use creating::create;
 pub use editing::edit_file;

@@ -7,8 +7,8 @@ use Rattle.kdbx_frame.specs.declared.settings.Cipher.{Cipher}
 use Rattle.kdbx_frame.specs.declared.settings.Cipher.TheVariants.{Aes, ChaCha, Twofish}
 use Rattle.kdbx_frame.specs.declared.settings.Settings.{Settings}
 use Rattle.kdbx_frame.specs.Settings.{iv_len}
-use Rattle.kdbx_writing.specs.declared.draws.Draws.{Draws}
-use Rattle.kdbx_writing.specs.Draws.{AreDrawn, AreFront, drawn_bytes, start_len, stream_len}
+use Rattle.kdbx_seal.specs.KdbxWriting.declared.draws.Draws.{Draws}
+use Rattle.kdbx_seal.specs.KdbxWriting.Draws.{AreDrawn, AreFront, drawn_bytes, start_len, stream_len}
 use Rattle.cli_writing.specs.Drawing.{next_bytes}
 use Rattle.cli_sealing.specs.Draws.{after_draws, after_iv, after_keys, after_stream, draws_of, front_of}
 

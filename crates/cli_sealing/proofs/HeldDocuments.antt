@@ -15,14 +15,14 @@ use Rattle.doc_spelling.specs.Ranges.{IsWritable}
 use Rattle.doc_spelling.proofs.GoodDocs.{doc_good}
 use Rattle.doc_spelling.proofs.ReadsBack.{says_document}
 use Rattle.kdbx_frame.specs.declared.settings.Settings.{Settings}
-use Rattle.kdbx_writing.specs.declared.draws.Draws.{Draws}
-use Rattle.kdbx_payload.specs.Sealed.{SealedPayload}
+use Rattle.kdbx_seal.specs.KdbxWriting.declared.draws.Draws.{Draws}
+use Rattle.kdbx_open.specs.KdbxPayload.Sealed.{SealedPayload}
 use Rattle.kdbx_seal.specs.PayloadMade.{written_keystream}
 use Rattle.sha2.specs.Sha256.{digest_bytes, sha256}
 use Rattle.sha2.proofs.Facts256.{length-sha256}
 use Rattle.doc_spelling.proofs.Goods.{IsHash}
 use Rattle.kdbx_frame.specs.Forms.{form_of}
-use Rattle.kdbx_writing.specs.Header.{spelled_header}
+use Rattle.kdbx_seal.specs.KdbxWriting.Header.{spelled_header}
 use Rattle.kdbx_seal.specs.Made.{attached_file, attached_files, document_text, hash_kept, made_file, made_file_payload}
 use Rattle.kdbx_open.specs.Documents.{KeepsHash, attachment, document_of, document_or_refusal}
 use Rattle.kdbx_open.specs.Sealed.{Sealed}

@@ -3,8 +3,8 @@ use Rattle.std.proofs.Common.{ℕ, List}
 use Rattle.vault_model.specs.Tree.{BareDoc, IsDoc}
 use Rattle.doc_spelling.specs.Ranges.{IsWritable}
 use Rattle.kdbx_frame.specs.declared.settings.Settings.{Settings}
-use Rattle.kdbx_writing.specs.declared.draws.Draws.{Draws}
-use Rattle.kdbx_payload.specs.Sealed.{SealedPayload}
+use Rattle.kdbx_seal.specs.KdbxWriting.declared.draws.Draws.{Draws}
+use Rattle.kdbx_open.specs.KdbxPayload.Sealed.{SealedPayload}
 use Rattle.kdbx_seal.specs.Made.{made_file, made_file_payload}
 use Rattle.cli_sealing.proofs.HeldDocuments.{is_held}
 use Rattle.cli_writing.specs.Held.{IsWritten}

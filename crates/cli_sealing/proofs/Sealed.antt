@@ -5,10 +5,10 @@ use Rattle.vault_making.specs.NeededVersion.{later, needed_version}
 use Rattle.vault_model.specs.Tree.{BareDoc}
 use Rattle.vault_model.specs.declared.forms.FileVersion.{FileVersion}
 use Rattle.vault_model.specs.declared.forms.FileVersion.TheVariants.{V31, V40, V41}
-use Rattle.key_core.specs.declared.kdf.Kdf.{Kdf}
+use Rattle.kdbx_frame.specs.KeyCore.declared.kdf.Kdf.{Kdf}
 use Rattle.kdbx_frame.specs.declared.settings.Settings.{Settings}
 use Rattle.kdbx_frame.specs.Settings.{IsInOrder, IsOfVersion}
-use Rattle.kdbx_writing.specs.declared.draws.Draws.{Draws}
+use Rattle.kdbx_seal.specs.KdbxWriting.declared.draws.Draws.{Draws}
 use Rattle.kdbx_seal.specs.Answers as seal
 use Rattle.kdbx_seal.specs.Answers.{size_refusal}
 use Rattle.kdbx_seal.specs.Made.{made_file}

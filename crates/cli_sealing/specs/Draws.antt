@@ -2,8 +2,8 @@
 use Rattle.std.specs.Prelude.{ℕ, ◌-◌, List, ◌++◌, drop, replicate}
 use Rattle.kdbx_frame.specs.declared.settings.Settings.{Settings}
 use Rattle.kdbx_frame.specs.Settings.{iv_len}
-use Rattle.kdbx_writing.specs.declared.draws.Draws.{Draws}
-use Rattle.kdbx_writing.specs.Draws.{start_len, stream_len}
+use Rattle.kdbx_seal.specs.KdbxWriting.declared.draws.Draws.{Draws}
+use Rattle.kdbx_seal.specs.KdbxWriting.Draws.{start_len, stream_len}
 use Rattle.cli_writing.specs.Drawing.{next_bytes}
 
 -- Bytes of this number: the next n ones of the dice, and zeros after them.

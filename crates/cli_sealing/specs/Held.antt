@@ -2,7 +2,7 @@
 use Rattle.std.specs.Prelude.{◌≡◌, ℕ, List, Ok}
 use Rattle.vault_model.specs.Tree.{BareDoc}
 use Rattle.kdbx_frame.specs.declared.settings.Settings.{Settings}
-use Rattle.kdbx_writing.specs.Kdf.{with_salt}
+use Rattle.kdbx_seal.specs.KdbxWriting.Kdf.{with_salt}
 use Rattle.kdbx_open.specs.Opening.{FileContents, opening}
 use Rattle.kdbx_open.specs.Sealed.{Sealed}
 

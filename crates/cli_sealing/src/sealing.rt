@@ -6,7 +6,7 @@ ghost use Rattle.outside_core.specs.Streams.{LosesPrefix};
 ghost use Rattle.vault_making.specs.NeededVersion.{later, needed_version};
 ghost use Rattle.vault_model.specs.SeenDoc.{doc_seen};
 ghost use Rattle.kdbx_frame.specs.Settings.{IsInOrder};
-ghost use Rattle.kdbx_writing.specs.Draws.{AreDrawn};
+ghost use Rattle.kdbx_seal.specs.KdbxWriting.Draws.{AreDrawn};
 ghost use Rattle.cli_messages.specs.Phases.{IsCommandStop, IsFault};
 ghost use Rattle.cli_writing.specs.Held.{IsWritten};
 ghost use Rattle.cli_writing.specs.Writing.{IsSizeStop, KeepsDraft, KeepsFiles, store};

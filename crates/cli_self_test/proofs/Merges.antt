@@ -4,11 +4,11 @@ use Rattle.vault_model.specs.Db.{Db}
 use Rattle.vault_model.specs.Join.{join, Agreed}
 use Rattle.vault_model.specs.Tree.{BareDoc, LEVELS, IsDoc, db_in, lay_doc}
 use Rattle.merge_core.specs.Refusals.{members}
-use Rattle.document_merge.specs.declared.merging.MergeFail.TheVariants.{TooDeep}
-use Rattle.document_merge.specs.Merging.{merge_result, unless_found}
-use Rattle.agreed_laws.specs.Merges.{AreDocs, IsSettledAs}
-use Rattle.agreed_laws.proofs.Merged.{levels_fit, levels_left, merged_so, settled_as}
-use Rattle.agreed_laws.proofs.Parts.{members_are}
+use Rattle.merge_again.specs.DocumentMerge.declared.merging.MergeFail.TheVariants.{TooDeep}
+use Rattle.merge_again.specs.DocumentMerge.Merging.{merge_result, unless_found}
+use Rattle.merge_again.specs.AgreedLaws.Merges.{AreDocs, IsSettledAs}
+use Rattle.merge_again.proofs.AgreedLaws.Merged.{levels_fit, levels_left, merged_so, settled_as}
+use Rattle.merge_again.proofs.AgreedLaws.Parts.{members_are}
 use Rattle.merge_again.proofs.MergeAgain.{either_way, settled_again}
 use Rattle.merge_twins.specs.Twins.{first_twin, second_twin}
 use Rattle.merge_twins.proofs.Agreement.{twins_agree, twins_fit}

@@ -4,14 +4,14 @@ use Rattle.std.specs.Prelude.{codes, IfErr, IsOk}
 use Rattle.vault_model.specs.declared.documents.Doc.{Doc}
 use Rattle.vault_model.specs.SeenDoc.{doc_seen}
 use Rattle.vault_model.specs.Tree.{BareDoc}
-use Rattle.doc_write.specs.Written.{Writes}
-use Rattle.doc_write.specs.declared.writing.WriteFail.{WriteFail}
-use Rattle.doc_write.specs.declared.writing.WriteFail.TheVariants.{TooMany, TooLarge}
-use Rattle.doc_write.specs.declared.writing.WriteFail.TheVariants as write
-use Rattle.document_merge.specs.declared.merging.MergeFail.{MergeFail}
-use Rattle.document_merge.specs.declared.merging.MergeFail.TheVariants.{RootClash, KindClash, MoveCycle, TooDeep}
-use Rattle.document_merge.specs.declared.merging.MergeFail.TheVariants as merge
-use Rattle.document_merge.specs.Merging.{IsMergeResult, MergeResult, merge_result}
+use Rattle.cli_writing.specs.DocWrite.Written.{Writes}
+use Rattle.cli_writing.specs.DocWrite.declared.writing.WriteFail.{WriteFail}
+use Rattle.cli_writing.specs.DocWrite.declared.writing.WriteFail.TheVariants.{TooMany, TooLarge}
+use Rattle.cli_writing.specs.DocWrite.declared.writing.WriteFail.TheVariants as write
+use Rattle.merge_again.specs.DocumentMerge.declared.merging.MergeFail.{MergeFail}
+use Rattle.merge_again.specs.DocumentMerge.declared.merging.MergeFail.TheVariants.{RootClash, KindClash, MoveCycle, TooDeep}
+use Rattle.merge_again.specs.DocumentMerge.declared.merging.MergeFail.TheVariants as merge
+use Rattle.merge_again.specs.DocumentMerge.Merging.{IsMergeResult, MergeResult, merge_result}
 use Rattle.cli_messages.specs.Messages.{Refuses, refusal_of}
 use Rattle.cli_messages.specs.Phases.{IsMemoryStop, IsPlainStop, Returns, Stops}
 use Rattle.cli_messages.specs.declared.answers.Refusal.{Refusal}

@@ -3,7 +3,7 @@ use Rattle.std.proofs.Common.{◌≡◌, ◌≤◌, ℕ, Bool, false, List, [], 
 use Rattle.std.specs.Prelude.{IsOk}
 use Rattle.outside_core.specs.Results.{◌>>=◌, Fails, Meaning, exact, free, never}
 use Rattle.vault_model.specs.Tree.{BareDoc, db_in}
-use Rattle.document_merge.specs.Merging.{merge_result}
+use Rattle.merge_again.specs.DocumentMerge.Merging.{merge_result}
 use Rattle.cli_messages.specs.Phases.{Stops, meaning_of}
 use Rattle.cli_messages.specs.declared.answers.Refusal.{Refusal}
 use Rattle.cli_messages.specs.declared.answers.Stop.{Stop}

@@ -11,8 +11,8 @@ use Rattle.vault_model.specs.declared.forms.DocForm.TheVariants.{Plain}
 use Rattle.vault_model.specs.Db.{Db, Versions}
 use Rattle.vault_model.specs.Join.{join}
 use Rattle.vault_model.specs.Tree.{BareDoc, LEVELS, db_in, lay_doc}
-use Rattle.doc_write.specs.Written.{write_outcome}
-use Rattle.doc_write.specs.declared.writing.WriteFail.{WriteFail}
+use Rattle.cli_writing.specs.DocWrite.Written.{write_outcome}
+use Rattle.cli_writing.specs.DocWrite.declared.writing.WriteFail.{WriteFail}
 use Rattle.merge_twins.specs.Twins.{first_twin, second_twin}
 use Rattle.cli_messages.specs.Messages.{refusal_of}
 use Rattle.cli_messages.specs.declared.answers.Refusal.{Refusal}

@@ -1,9 +1,9 @@
 //! One document merged into another, which is never refused.
 ghost use Rattle.std.specs.Prelude.{◌≡◌, [], ◌∷◌, false, IfOk, IsOk, Ok};
 ghost use Rattle.vault_model.specs.SeenDoc.{doc_seen};
-ghost use Rattle.document_merge.specs.Merging.{merge_result};
+ghost use Rattle.merge_again.specs.DocumentMerge.Merging.{merge_result};
 
-use document_merge::merging::{MergeFail, Merged, merge_lent};
+use merge_again::document_merge::merging::{MergeFail, Merged, merge_lent};
 use outside_core::NoMemory;
 use std::alloc::Global;
 use std::slice::from_ref;

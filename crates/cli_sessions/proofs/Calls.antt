@@ -2,7 +2,7 @@
 use Rattle.std.proofs.Common.{◌≡◌, ◌≢◌, ◌∙◌, refl, sym, ap, arith, ℕ, List, [], ◌∷◌, ◌++◌, codes, append_assoc, Bool, true, false, cond, Option, Some, None}
 use Rattle.std.specs.Prelude.{IfSome, is_some, not, ◌&&◌, ◌||◌}
 use Rattle.std.specs.Option.{option_and_then}
-use Rattle.cli_needs.specs.declared.command.Access.{Access}
+use Rattle.cli_parse.specs.CliNeeds.declared.command.Access.{Access}
 use Rattle.cli_options.specs.declared.names.CommandName.{CommandName}
 use Rattle.cli_options.specs.declared.names.CommandName.TheVariants as name
 use Rattle.cli_options.specs.declared.forms.CommandOption.{CommandOption}

@@ -1,7 +1,7 @@
 -- Words that open sessions, and words of lines, and which commands they are.
 use Rattle.std.proofs.Common.{◌≡◌, refl, ℕ, List, [], ◌∷◌, codes, true, false, Some, None}
-use Rattle.cli_needs.specs.declared.command.Access.{Access}
-use Rattle.cli_needs.specs.declared.command.Command.TheVariants.{Ls, Show, Add, Info}
+use Rattle.cli_parse.specs.CliNeeds.declared.command.Access.{Access}
+use Rattle.cli_parse.specs.CliNeeds.declared.command.Command.TheVariants.{Ls, Show, Add, Info}
 use Rattle.cli_sessions.specs.Openings.{opening_of}
 use Rattle.cli_sessions.specs.SessionLines.{line_in}
 

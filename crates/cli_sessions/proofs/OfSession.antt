@@ -7,11 +7,11 @@ use Rattle.cli_profiles.specs.Generating.{generated_in}
 use Rattle.cli_profiles.specs.Profiles.{IsProfile}
 use Rattle.cli_profiles.specs.declared.profiles.PasswordProfile.{PasswordProfile}
 use Rattle.cli_profiles.proofs.Alphabets.{generated_profile}
-use Rattle.cli_needs.specs.declared.command.Access.{Access}
-use Rattle.cli_needs.specs.declared.command.Command.{Command}
-use Rattle.cli_needs.specs.declared.command.Command.TheVariants.{Add, Restore}
-use Rattle.cli_needs.specs.declared.command.FurtherAsked.{FurtherAsked}
-use Rattle.cli_needs.specs.Needs.{generated_by, target_access, target_of}
+use Rattle.cli_parse.specs.CliNeeds.declared.command.Access.{Access}
+use Rattle.cli_parse.specs.CliNeeds.declared.command.Command.{Command}
+use Rattle.cli_parse.specs.CliNeeds.declared.command.Command.TheVariants.{Add, Restore}
+use Rattle.cli_parse.specs.CliNeeds.declared.command.FurtherAsked.{FurtherAsked}
+use Rattle.cli_parse.specs.CliNeeds.Needs.{generated_by, target_access, target_of}
 use Rattle.cli_options.specs.declared.names.CommandName.{CommandName}
 use Rattle.cli_options.specs.declared.names.CommandName.TheVariants as name
 use Rattle.cli_options.specs.declared.forms.CommandOption.{CommandOption}

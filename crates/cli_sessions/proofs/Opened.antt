@@ -4,7 +4,7 @@ use Rattle.std.specs.Prelude.{IfSome, if◌then◌else◌, Err}
 use Rattle.std.specs.Option.{option_and_then}
 use Rattle.cli_messages.specs.declared.answers.Reason.TheVariants.{WrongWords}
 use Rattle.cli_messages.specs.Messages.{refusal_of}
-use Rattle.cli_needs.specs.Needs.{HasKey}
+use Rattle.cli_parse.specs.CliNeeds.Needs.{HasKey}
 use Rattle.cli_options.specs.declared.names.CommandName.{CommandName}
 use Rattle.cli_options.specs.declared.names.CommandName.TheVariants as name
 use Rattle.cli_options.specs.Credentials.{is_whole}

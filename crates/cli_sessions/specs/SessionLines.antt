@@ -9,10 +9,10 @@ use Rattle.cli_options.specs.declared.forms.CommandOption.{CommandOption}
 use Rattle.cli_options.specs.declared.forms.CommandOption.TheVariants as option
 use Rattle.cli_options.specs.Options.{command_named}
 use Rattle.cli_options.specs.Said.{Said, is_given, nothing_said, with_text, with_words}
-use Rattle.cli_needs.specs.declared.command.Access.{Access}
-use Rattle.cli_needs.specs.declared.command.Command.{Command}
-use Rattle.cli_needs.specs.declared.command.Command.TheVariants.{Ls, Show, Search, Add, Edit, Restore, Move, Remove, MakeGroup, RemoveGroup, Info}
-use Rattle.cli_needs.specs.Needs.{target_access, target_of}
+use Rattle.cli_parse.specs.CliNeeds.declared.command.Access.{Access}
+use Rattle.cli_parse.specs.CliNeeds.declared.command.Command.{Command}
+use Rattle.cli_parse.specs.CliNeeds.declared.command.Command.TheVariants.{Ls, Show, Search, Add, Edit, Restore, Move, Remove, MakeGroup, RemoveGroup, Info}
+use Rattle.cli_parse.specs.CliNeeds.Needs.{target_access, target_of}
 use Rattle.cli_parse.specs.Words.{command_saying, or_wrong_words}
 
 -- ---- the command of a line

@@ -3,8 +3,8 @@
 ghost use Rattle.std.specs.Prelude.{◌≡◌, ◌++◌, ◌∷◌, ℕ, codes, Err, IfSome, List, None, Ok, Some, false, true};
 ghost use Rattle.cli_messages.specs.declared.answers.Reason.TheVariants.{WrongWords};
 ghost use Rattle.cli_messages.specs.Messages.{refusal_of};
-ghost use Rattle.cli_needs.specs.declared.command.Access.{Access};
-ghost use Rattle.cli_needs.specs.declared.command.Command.{Command};
+ghost use Rattle.cli_parse.specs.CliNeeds.declared.command.Access.{Access};
+ghost use Rattle.cli_parse.specs.CliNeeds.declared.command.Command.{Command};
 ghost use Rattle.cli_options.specs.declared.names.CommandName.{CommandName};
 ghost use Rattle.cli_options.specs.Options.{command_named};
 ghost use Rattle.cli_options.specs.Said.{is_option, with_words};

@@ -1,7 +1,7 @@
 //! The command of a line of a session.
 ghost use Rattle.std.specs.Prelude.{◌≡◌, IfErr, IfOk, IfSome, map};
 ghost use Rattle.cli_messages.specs.Phases.{IsWordsStop, Returns};
-ghost use Rattle.cli_needs.specs.Needs.{generated_by};
+ghost use Rattle.cli_parse.specs.CliNeeds.Needs.{generated_by};
 ghost use Rattle.cli_options.specs.Said.{with_position, with_words};
 ghost use Rattle.cli_options.specs.SaidWords.{Gives, reading_seen, said_seen, text_seen};
 ghost use Rattle.cli_profiles.specs.Profiles.{IsProfile};
@@ -9,11 +9,11 @@ ghost use Rattle.cli_sessions.specs.SessionLines as spec;
 ghost use Rattle.cli_sessions.specs.SessionLines.{IsOfSession, line_command};
 
 use cli_messages::{Reason, Stop, refused};
-use cli_needs::{Access, Command};
 use cli_options::{
     CommandName, CommandOption, GivenTexts, OPTIONS, ReadingState, SaidWords, WordsFail,
     add_position, add_word, command_named, empty_state, is_given, no_texts, with_text,
 };
+use cli_parse::cli_needs::{Access, Command};
 use cli_parse::command_saying;
 use outside_core::Text;
 use std::alloc::Global;

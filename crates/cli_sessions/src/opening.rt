@@ -1,15 +1,15 @@
 //! Which words of a call open a session, and over which database.
 ghost use Rattle.std.specs.Prelude.{◌≡◌, IfOk, IfSome, map, string_bytes};
-ghost use Rattle.cli_needs.specs.Needs.{HasKey};
+ghost use Rattle.cli_parse.specs.CliNeeds.Needs.{HasKey};
 ghost use Rattle.cli_options.specs.SaidWords.{Gives, said_seen};
 ghost use Rattle.cli_parse.specs.Words as words_spec;
 ghost use Rattle.cli_sessions.specs.Openings as spec;
 
-use cli_needs::Access;
 use cli_options::{
     CommandName, SaidWords, WordsFail, command_named, is_whole, lend_said, read_after_name,
 };
 use cli_parse::access_of;
+use cli_parse::cli_needs::Access;
 use outside_core::{NoMemory, Text};
 use std::alloc::Global;
 

@@ -17,7 +17,7 @@ use Rattle.vault_model.proofs.Ids.{id_itself}
 use Rattle.vault_model.proofs.Tests.{any_true, apart}
 use Rattle.merge_core.specs.Example.{as_it_was, bank, edited, entry, moved, root, version}
 use Rattle.merge_core.specs.NodesBelow.{below_ids}
-use Rattle.agreed_laws.proofs.Merged.{merged_so}
+use Rattle.merge_examples.proofs.AgreedLaws.Merged.{merged_so}
 use Rattle.merge_examples.proofs.Merged.{example_is_merged}
 use Rattle.tree_core.specs.Finding.{entry_found}
 use Rattle.doc_spelling.specs.Moments.{moment_at, month_from, year_from}

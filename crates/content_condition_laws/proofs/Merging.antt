@@ -10,12 +10,12 @@ use Rattle.merge_core.specs.NodesBelow.{below_ids}
 use Rattle.merge_core.specs.Refusals.{least, members, root_clashes}
 use Rattle.merge_core.proofs.Refused as refused
 use Rattle.merge_core.proofs.SoundDoc.{db_root}
-use Rattle.merge_checks.specs.Cycles.{cycle_above}
-use Rattle.document_merge.specs.declared.merging.MergeFail.TheVariants.{KindClash, MoveCycle, RootClash, TooDeep}
-use Rattle.document_merge.specs.Merging.{kind_stage, level_stage, merge_result, path_stage, unless_found}
-use Rattle.agreed_laws.specs.Merges.{AreDocs}
-use Rattle.agreed_laws.proofs.Parts.{no_kind_clash, no_stray}
-use Rattle.agreed_laws.proofs.Shallow.{none_pass, shallow}
+use Rattle.merge_examples.specs.MergeChecks.Cycles.{cycle_above}
+use Rattle.merge_examples.specs.DocumentMerge.declared.merging.MergeFail.TheVariants.{KindClash, MoveCycle, RootClash, TooDeep}
+use Rattle.merge_examples.specs.DocumentMerge.Merging.{kind_stage, level_stage, merge_result, path_stage, unless_found}
+use Rattle.merge_examples.specs.AgreedLaws.Merges.{AreDocs}
+use Rattle.merge_examples.proofs.AgreedLaws.Parts.{no_kind_clash, no_stray}
+use Rattle.merge_examples.proofs.AgreedLaws.Shallow.{none_pass, shallow}
 use Rattle.content_condition_laws.specs.Conditions.{CanBeMerged, MergeSucceeds}
 
 module _ (t : BareDoc) (ss : List BareDoc) (all : AreDocs (t ∷ ss)) (can : CanBeMerged t ss) where

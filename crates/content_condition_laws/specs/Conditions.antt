@@ -11,8 +11,8 @@ use Rattle.vault_model.specs.Tree.{BareDoc, FitsLevels, LEVELS, id_of}
 use Rattle.vault_model.specs.declared.forms.DocForm.TheVariants.{Plain}
 use Rattle.merge_core.specs.NodesBelow.{below_ids}
 use Rattle.merge_core.specs.Refusals.{members}
-use Rattle.document_merge.specs.Merging.{merge_result}
-use Rattle.agreed_laws.specs.Merges.{AreDocs}
+use Rattle.merge_examples.specs.DocumentMerge.Merging.{merge_result}
+use Rattle.merge_examples.specs.AgreedLaws.Merges.{AreDocs}
 use Rattle.tree_core.specs.After.{Holding, entry_named}
 use Rattle.doc_spelling.specs.Ranges.{tree_nodes}
 use Rattle.doc_write.specs.Written.{written_len}

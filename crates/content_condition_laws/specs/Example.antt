@@ -1,7 +1,7 @@
 -- Conditions that hold of small databases, so that each law but that of codes speaks of something.
 use Rattle.std.specs.Prelude.{[], ◌∷◌, codes, false, true}
 use Rattle.merge_core.specs.Example.{as_it_was, edited, moved}
-use Rattle.agreed_laws.specs.Merges.{AreDocs}
+use Rattle.merge_examples.specs.AgreedLaws.Merges.{AreDocs}
 use Rattle.cli_needs.specs.declared.command.ExportFormat.TheVariants.{Csv, Xml}
 use Rattle.content_condition_laws.specs.Conditions.{CanBeMerged, CanExport, CanSearch, CanShow, CanShowHistory}
 

@@ -15,11 +15,11 @@ ghost use Rattle.doc_walk.specs.Steps.{Steps};
 ghost use Rattle.doc_walk.specs.Tags.{child_step, contents_step};
 
 use doc_forms::{AttachmentDraft, DocFail, ElementText, SourceDraft};
-use doc_values::{
+use doc_walk::doc_values::{
     Kind, SecretBytes, TextValue, bytes_of, is_hidden, is_marked, no_text, number64, resolved,
 };
+use doc_walk::markup_core::Attrs;
 use doc_walk::{Parts, Tag, Walk, read_whole};
-use markup_core::Attrs;
 use outside_core::Text;
 use secret_core::Secret;
 use std::alloc::Global;

@@ -8,7 +8,7 @@ ghost use Rattle.doc_walk.specs.Steps.{Steps};
 ghost use Rattle.doc_walk.specs.Tags.{contents_step};
 
 use doc_forms::DocFail;
-use doc_values::{Number32, TextValue, TrueUnlessFalse};
+use doc_walk::doc_values::{Number32, TextValue, TrueUnlessFalse};
 use doc_walk::{Parts, Tag, Walk, read_whole};
 use outside_core::{List, Text};
 use std::alloc::Global;

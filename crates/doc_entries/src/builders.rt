@@ -10,7 +10,7 @@ ghost use Rattle.doc_forms.specs.SeenDrafts.{attachment_seen, version_seen};
 
 use crate::auto_types::no_auto_type;
 use doc_forms::{AttachmentDraft, DocFail, Times, VersionDraft};
-use doc_values::KeyedList;
+use doc_walk::doc_values::KeyedList;
 use doc_walk::{never, no_times};
 use outside_core::{List, Text};
 use std::alloc::Global;

@@ -15,7 +15,7 @@ use crate::histories::history;
 use crate::nodes::node_id;
 use crate::versions::version_child;
 use doc_forms::{DocFail, EntryDraft};
-use doc_values::{IdValue, OwnId};
+use doc_walk::doc_values::{IdValue, OwnId};
 use doc_walk::{Parts, Tag, Walk, kept_with, read_counted};
 use uuid_core::Uuid;
 

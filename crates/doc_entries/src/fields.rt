@@ -10,7 +10,7 @@ ghost use Rattle.doc_walk.specs.Steps.{Steps};
 ghost use Rattle.doc_walk.specs.Tags.{contents_step};
 
 use doc_forms::DocFail;
-use doc_values::{SecretText, TextValue, no_text};
+use doc_walk::doc_values::{SecretText, TextValue, no_text};
 use doc_walk::{Parts, Tag, Walk, read_whole};
 use outside_core::Text;
 use std::alloc::Global;

@@ -14,7 +14,7 @@ ghost use Rattle.doc_walk.specs.Tags.{contents_step};
 use crate::builders::{EntryBuilder, no_entry, version_of};
 use crate::versions::version_child;
 use doc_forms::{DocFail, VersionDraft};
-use doc_values::{IdOrNone, IdValue};
+use doc_walk::doc_values::{IdOrNone, IdValue};
 use doc_walk::{Parts, Tag, Walk, append, read_counted, read_whole};
 
 /// What is known of a history item before its end.

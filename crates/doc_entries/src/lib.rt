@@ -11,5 +11,7 @@ mod histories;
 mod nodes;
 mod versions;
 
+pub use doc_walk;
+pub use doc_walk::{doc_values, markup_core};
 pub use entries::entry;
 pub use nodes::node_id;

@@ -11,7 +11,7 @@ use crate::auto_types::auto_type;
 use crate::builders::{EntryBuilder, put_attachment, put_field};
 use crate::fields::field;
 use doc_forms::DocFail;
-use doc_values::{IdOrNone, Number32, TextValue, TrueUnlessFalse};
+use doc_walk::doc_values::{IdOrNone, Number32, TextValue, TrueUnlessFalse};
 use doc_walk::{Tag, Walk, custom_data, times};
 
 /// Reads a child of an entry or a history item after those that [`text_child`] reads itself: its

@@ -1,11 +1,11 @@
 -- The children of an element: each is read by the row of its name, in their order.
 use Rattle.std.specs.Prelude.{ℕ, ◌+◌, Bool, if◌then◌else◌, Option, List, [], ◌∷◌, ◌++◌, nat_lt, bytes_eq, Result, Ok, Err}
-use Rattle.markup_grammar.specs.Elements.{Element, Content, element, last, also, cut, own_text}
+use Rattle.text_forms.specs.MarkupGrammar.Elements.{Element, Content, element, last, also, cut, own_text}
 use Rattle.doc_forms.specs.declared.cursor.Cursor.{Cursor}
 use Rattle.doc_forms.specs.declared.fails.DocFail.{DocFail}
 use Rattle.doc_forms.specs.declared.fails.DocFail.TheVariants.{TooMany}
 use Rattle.doc_forms.specs.ElementTexts.{ElementText, Setting, is_hidden, read_element, read_rest, text_at_end}
-use Rattle.outside_core.specs.Results.{◌>>=◌}
+use Rattle.stream_core.specs.OutsideCore.Results.{◌>>=◌}
 use Rattle.doc_forms.specs.Refusals.{checked_value, markup_refusal}
 
 -- How a child is read of an element of which this much is known: what is known then, and how much

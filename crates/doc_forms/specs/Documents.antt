@@ -1,7 +1,7 @@
 -- Documents: what a text says as a whole, or its first refusal.
 use Rattle.std.specs.Prelude.{ℕ, Bool, not, if◌then◌else◌, is_some, Option, Some, None, List, [], ◌∷◌, ◌++◌, codes, Result, Ok, Err}
-use Rattle.markup_grammar.specs.Elements.{element, content_of}
-use Rattle.markup_grammar.specs.Reading.{answers}
+use Rattle.text_forms.specs.MarkupGrammar.Elements.{element, content_of}
+use Rattle.text_forms.specs.MarkupGrammar.Reading.{answers}
 use Rattle.vault_model.specs.Db.{nil_id}
 use Rattle.vault_model.specs.Tree.{BareDoc, node_ids}
 use Rattle.vault_model.specs.declared.forms.DocForm.{DocForm}
@@ -18,7 +18,7 @@ use Rattle.doc_forms.specs.ElementTexts.{Setting, start}
 use Rattle.doc_forms.specs.Groups.{ReadTree, group}
 use Rattle.doc_forms.specs.Ids.{least_duplicate, refuse_duplicate, tombs_of}
 use Rattle.doc_forms.specs.Metas.{ReadBinary, MetaParts, no_meta, metas}
-use Rattle.outside_core.specs.Results.{◌>>=◌}
+use Rattle.stream_core.specs.OutsideCore.Results.{◌>>=◌}
 use Rattle.doc_forms.specs.Values.{value_or, id, time}
 
 -- ---- the tree of a document

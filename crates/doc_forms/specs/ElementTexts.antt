@@ -2,8 +2,8 @@
 -- stream that uses.
 use Rattle.std.specs.Prelude.{ℕ, ◌+◌, Bool, true, false, ◌||◌, if◌then◌else◌, Option, Some, None, List, ◌++◌, length, codes, Result, Ok, Err}
 use Rattle.std.specs.Str.{str_eq_ignore_ascii_case}
-use Rattle.markup_grammar.specs.Attributes.{attribute_text}
-use Rattle.markup_grammar.specs.Elements.{Element, Content, element, last, also, cut, own_text}
+use Rattle.text_forms.specs.MarkupGrammar.Attributes.{attribute_text}
+use Rattle.text_forms.specs.MarkupGrammar.Elements.{Element, Content, element, last, also, cut, own_text}
 use Rattle.stream_core.specs.InnerStream.{Keystream, keystream_byte}
 use Rattle.stream_core.specs.Stream.{xor_stream}
 use Rattle.text_forms.specs.Texts.{trim, base64_bytes}
@@ -12,7 +12,7 @@ use Rattle.vault_model.specs.declared.forms.DocForm.TheVariants.{Plain, V3, V4}
 use Rattle.doc_forms.specs.declared.cursor.Cursor.{Cursor}
 use Rattle.doc_forms.specs.declared.fails.DocFail.{DocFail}
 use Rattle.doc_forms.specs.declared.fails.DocFail.TheVariants.{BadValue}
-use Rattle.outside_core.specs.Results.{◌>>=◌}
+use Rattle.stream_core.specs.OutsideCore.Results.{◌>>=◌}
 use Rattle.doc_forms.specs.Refusals.{checked_value, markup_refusal}
 
 -- What an element says: its text as it is, or the bytes that its text hides.

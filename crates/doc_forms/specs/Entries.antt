@@ -1,7 +1,7 @@
 -- Entries: what their elements say.
 use Rattle.std.specs.Prelude.{ℕ, Bool, true, false, ◌&&◌, if◌then◌else◌, is_none, Option, Some, None, List, [], ◌∷◌, ◌++◌, codes, option_map, Result, Ok, Err, bytes_eq}
-use Rattle.markup_grammar.specs.Attributes.{attribute_text}
-use Rattle.markup_grammar.specs.Elements.{Content, element}
+use Rattle.text_forms.specs.MarkupGrammar.Attributes.{attribute_text}
+use Rattle.text_forms.specs.MarkupGrammar.Elements.{Content, element}
 use Rattle.text_forms.specs.Texts.{trim}
 use Rattle.vault_model.specs.Bare.{BareField, BareContent}
 use Rattle.vault_model.specs.Db.{NodeId, nil_id}
@@ -15,7 +15,7 @@ use Rattle.doc_forms.specs.declared.fails.RequiredElement.TheVariants.{Uuid}
 use Rattle.doc_forms.specs.declared.times.Times.{Times}
 use Rattle.doc_forms.specs.Children.{Child, by_name, value, hidden_value, children_and_end, container, count_node}
 use Rattle.doc_forms.specs.ElementTexts.{ElementText, Setting, text_bytes, is_marked, is_hidden, read_element}
-use Rattle.outside_core.specs.Results.{◌>>=◌}
+use Rattle.stream_core.specs.OutsideCore.Results.{◌>>=◌}
 use Rattle.doc_forms.specs.Refusals.{checked_value}
 use Rattle.doc_forms.specs.Tables.{put, no_times, times, custom_data}
 use Rattle.doc_forms.specs.Values.{text_in, bytes_in, value_or, id, boolean, number32, number64}

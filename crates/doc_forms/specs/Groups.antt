@@ -1,6 +1,6 @@
 -- Groups: what their elements say, and the tree that they make.
 use Rattle.std.specs.Prelude.{ℕ, ◌-◌, ◌==◌, Bool, true, false, if◌then◌else◌, Option, Some, None, List, [], ◌∷◌, ◌++◌, codes, bytes_eq, Result, Ok, Err}
-use Rattle.markup_grammar.specs.Elements.{Element, Content, element, last, also, cut, own_text}
+use Rattle.text_forms.specs.MarkupGrammar.Elements.{Element, Content, element, last, also, cut, own_text}
 use Rattle.vault_model.specs.Db.{NodeId, nil_id}
 use Rattle.vault_model.specs.Shape.{GroupRecord}
 use Rattle.vault_model.specs.declared.contents.GroupContent.{GroupContent}
@@ -13,7 +13,7 @@ use Rattle.doc_forms.specs.declared.times.Times.{Times}
 use Rattle.doc_forms.specs.Children.{Child, name_of, offset_of, by_name, value, count_node}
 use Rattle.doc_forms.specs.ElementTexts.{Setting, text_at_end}
 use Rattle.doc_forms.specs.Entries.{ReadEntry, id_or_none, node_id, own_id, entry}
-use Rattle.outside_core.specs.Results.{◌>>=◌}
+use Rattle.stream_core.specs.OutsideCore.Results.{◌>>=◌}
 use Rattle.doc_forms.specs.Refusals.{markup_refusal}
 use Rattle.doc_forms.specs.Tables.{no_times, times, custom_data}
 use Rattle.doc_forms.specs.Values.{text_in, value_or, id, boolean, choice, number32}

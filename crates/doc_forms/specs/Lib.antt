@@ -13,3 +13,6 @@ pub mod SeenDrafts
 pub mod SeenTexts
 pub mod Tables
 pub mod Values
+pub use Rattle.text_forms.specs.MarkupGrammar
+pub use Rattle.stream_core.specs as StreamCore
+pub use Rattle.text_forms.specs as TextForms

@@ -1,7 +1,7 @@
 -- What a document says of its database, and the binaries to which its attachments refer.
 use Rattle.std.specs.Prelude.{ℕ, pos, negsuc, Bool, true, false, if◌then◌else◌, Option, Some, None, List, [], ◌∷◌, ◌++◌, codes, option_map, option_and_then, Ok, Err}
-use Rattle.markup_grammar.specs.Attributes.{attribute_text}
-use Rattle.markup_grammar.specs.Elements.{element}
+use Rattle.text_forms.specs.MarkupGrammar.Attributes.{attribute_text}
+use Rattle.text_forms.specs.MarkupGrammar.Elements.{element}
 use Rattle.text_forms.specs.Texts.{bytes_of_length}
 use Rattle.vault_model.specs.Db.{nil_id}
 use Rattle.vault_model.specs.Empty.{new_meta, new_protection}
@@ -16,7 +16,7 @@ use Rattle.vault_model.specs.declared.metas.Protection.{Protection}
 use Rattle.doc_forms.specs.declared.fails.DocFail.TheVariants.{Compressed}
 use Rattle.doc_forms.specs.Children.{Child, value, container}
 use Rattle.doc_forms.specs.ElementTexts.{Setting, is_marked, is_hidden, read_element}
-use Rattle.outside_core.specs.Results.{◌>>=◌}
+use Rattle.stream_core.specs.OutsideCore.Results.{◌>>=◌}
 use Rattle.doc_forms.specs.Refusals.{checked_value}
 use Rattle.doc_forms.specs.Tables.{put, custom_data}
 use Rattle.doc_forms.specs.Values.{text_in, bytes_in, value_or, id, boolean, number32, number64, signed32, signed64, time}

@@ -1,8 +1,8 @@
 -- Reading in steps, of which the first refusal is the answer.
 use Rattle.std.specs.Prelude.{ℕ, Option, Some, None, Result, Ok, Err}
-use Rattle.markup_grammar.specs.Answers.{Answer, form, depth}
-use Rattle.outside_core.specs.Results as results
-use Rattle.outside_core.specs.Results.{Meaning, exact, free}
+use Rattle.text_forms.specs.MarkupGrammar.Answers.{Answer, form, depth}
+use Rattle.stream_core.specs.OutsideCore.Results as results
+use Rattle.stream_core.specs.OutsideCore.Results.{Meaning, exact, free}
 use Rattle.doc_forms.specs.declared.fails.DocFail.{DocFail}
 use Rattle.doc_forms.specs.declared.fails.DocFail.TheVariants.{Form, Depth, BadValue, NoMemory}
 

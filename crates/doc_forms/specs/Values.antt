@@ -7,10 +7,10 @@ use Rattle.std.specs.Str.Parse.{digits_value}
 use Rattle.jiff_core.specs.Calendar.{days_in_month}
 use Rattle.text_forms.specs.Texts.{trim, base64_bytes, bytes_of_length}
 use Rattle.vault_model.specs.Db.{NodeId}
-use Rattle.time_core.specs.Times.{last_stamp, seconds_of, iso_text}
+use Rattle.vault_model.specs.TimeCore.Times.{last_stamp, seconds_of, iso_text}
 use Rattle.vault_model.specs.declared.contents.Tri.{Tri}
 use Rattle.vault_model.specs.declared.contents.Tri.TheVariants.{Inherit, No, Yes}
-use Rattle.time_core.specs.declared.iso.Moment.{Moment}
+use Rattle.vault_model.specs.TimeCore.declared.iso.Moment.{Moment}
 use Rattle.doc_forms.specs.ElementTexts.{ElementText, plain_text, hidden_bytes, text_bytes}
 
 -- a text is UTF-8, with the white space at its ends

@@ -1,9 +1,9 @@
 //! Parts of a document before it is whole, when the bytes of attachments are not resolved yet.
 
 use crate::times::Times;
-use outside_core::{List, Text};
-use secret_core::Secret;
 use std::rc::Rc;
+use stream_core::outside_core::{List, Text};
+use stream_core::secret_core::Secret;
 use uuid_core::Uuid;
 use vault_model::{GroupContent, GroupState, GroupView, Meta, Stamp, Tombstone, Version};
 

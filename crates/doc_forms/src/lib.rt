@@ -16,5 +16,6 @@ pub use drafts::{
     RootBuilder, SourceDraft, VersionDraft,
 };
 pub use fails::{DocFail, RequiredElement};
+pub use stream_core;
 pub use texts::ElementText;
 pub use times::Times;

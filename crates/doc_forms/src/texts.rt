@@ -1,6 +1,6 @@
 //! What an element says, in memory.
 
-use secret_core::Secret;
+use stream_core::secret_core::Secret;
 
 /// What an element says: its text, or the bytes that its text hid.
 #[derive(Drop)]

@@ -15,13 +15,13 @@ use Rattle.doc_forms.specs.Entries.{node_id}
 use Rattle.doc_forms.specs.Refusals.{Fails, Returns}
 use Rattle.outside_core.specs.Results.{◌>>=◌}
 use Rattle.doc_forms.specs.SeenDrafts.{side_by_side, draft_seen}
-use Rattle.doc_walk.proofs.Branches.{put_in, refused_in}
-use Rattle.doc_walk.proofs.Goes.{refused}
-use Rattle.doc_walk.proofs.Pieces.{carried, given_same, on_ok}
-use Rattle.doc_walk.proofs.Rests.{same_rest}
-use Rattle.doc_walk.specs.declared.walk.Tag.{Tag}
-use Rattle.doc_walk.specs.Steps.{Course, Rest, Steps}
-use Rattle.doc_walk.specs.Tags.{child_step, contents_step}
+use Rattle.doc_entries.proofs.DocWalk.Branches.{put_in, refused_in}
+use Rattle.doc_entries.proofs.DocWalk.Goes.{refused}
+use Rattle.doc_entries.proofs.DocWalk.Pieces.{carried, given_same, on_ok}
+use Rattle.doc_entries.proofs.DocWalk.Rests.{same_rest}
+use Rattle.doc_entries.specs.DocWalk.declared.walk.Tag.{Tag}
+use Rattle.doc_entries.specs.DocWalk.Steps.{Course, Rest, Steps}
+use Rattle.doc_entries.specs.DocWalk.Tags.{child_step, contents_step}
 use Rattle.doc_groups.proofs.Places.{one_more_seen}
 use Rattle.doc_groups.specs.GroupSteps.{group_step, id_at_end, whole_group}
 

@@ -1,2 +1,3 @@
 mod GroupWalks
 mod Places
+pub use Rattle.doc_entries.proofs.DocWalk

@@ -4,8 +4,8 @@ use Rattle.std.proofs.Common.{◌≡◌, Bool, true, false, Option, None, Some, 
 use Rattle.outside_core.specs.Results.{◌>>=◌}
 use Rattle.doc_forms.specs.declared.fails.DocFail.{DocFail}
 use Rattle.doc_forms.specs.Refusals.{Returns}
-use Rattle.doc_walk.proofs.Pieces.{carried}
-use Rattle.doc_walk.specs.Steps.{Course, Rest, Steps, map_rest}
+use Rattle.doc_entries.proofs.DocWalk.Pieces.{carried}
+use Rattle.doc_entries.specs.DocWalk.Steps.{Course, Rest, Steps, map_rest}
 
 -- as it is kept
 pub set_in : {X Y P Z : Type 0} {view : X → Y} {old new : Course} {rest : Rest Y} {x : X} {z : Z} (keep : Y → P)

@@ -9,8 +9,8 @@ use Rattle.doc_forms.specs.ElementTexts.{Setting}
 use Rattle.doc_forms.specs.Children.{Child, count_node}
 use Rattle.doc_forms.specs.Entries.{entry, node_id}
 use Rattle.doc_forms.specs.Groups.{ReadTree, GroupParts, group, node, record_of}
-use Rattle.doc_walk.specs.declared.walk.Tag.{Tag}
-use Rattle.doc_walk.specs.Steps.{Rest}
+use Rattle.doc_entries.specs.DocWalk.declared.walk.Tag.{Tag}
+use Rattle.doc_entries.specs.DocWalk.Steps.{Rest}
 use Rattle.outside_core.specs.Results.{◌>>=◌}
 
 -- a group, below which so many levels are allowed

@@ -1,1 +1,2 @@
 pub mod GroupSteps
+pub use Rattle.doc_entries.specs.DocWalk

@@ -5,13 +5,15 @@ ghost use Rattle.doc_forms.specs.Children.{by_name};
 ghost use Rattle.doc_forms.specs.Groups as spec;
 ghost use Rattle.doc_forms.specs.SeenDrafts.{group_parts_seen};
 ghost use Rattle.doc_groups.specs.GroupSteps.{entry_child};
-ghost use Rattle.doc_walk.specs.Steps.{Steps};
-ghost use Rattle.doc_walk.specs.Tags.{child_step};
+ghost use Rattle.doc_entries.specs.DocWalk.Steps.{Steps};
+ghost use Rattle.doc_entries.specs.DocWalk.Tags.{child_step};
 
+use doc_entries::doc_values::{
+    ChoiceValue, IdOrNone, IdValue, Number32, OwnId, TextValue, TrueUnlessFalse,
+};
+use doc_entries::doc_walk::{Tag, Walk, append, custom_data, times};
 use doc_entries::entry;
 use doc_forms::{DocFail, GroupBuilder};
-use doc_values::{ChoiceValue, IdOrNone, IdValue, Number32, OwnId, TextValue, TrueUnlessFalse};
-use doc_walk::{Tag, Walk, append, custom_data, times};
 
 /// Reads an entry of a group.
 fn entry_child(known: &mut GroupBuilder, walk: &mut Walk<'_>, tag: &Tag<'_>) -> Result<(), DocFail>

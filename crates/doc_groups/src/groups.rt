@@ -5,16 +5,16 @@ ghost use Rattle.doc_forms.specs.Groups as spec;
 ghost use Rattle.doc_forms.specs.Refusals.{Returns};
 ghost use Rattle.doc_forms.specs.SeenDrafts.{draft_seen, group_parts_seen};
 ghost use Rattle.doc_groups.specs.GroupSteps.{group_step, id_at_end, whole_group};
-ghost use Rattle.doc_walk.specs.Steps.{Steps};
-ghost use Rattle.doc_walk.specs.Tags.{child_step, contents_step};
+ghost use Rattle.doc_entries.specs.DocWalk.Steps.{Steps};
+ghost use Rattle.doc_entries.specs.DocWalk.Tags.{child_step, contents_step};
 
 use crate::group_children::read_child;
 use crate::new_groups::{add_group, draft_of, id_of, no_group};
+use doc_entries::doc_values::{appended, is_marked, no_text};
+use doc_entries::doc_walk::{Tag, Walk, kept_with};
+use doc_entries::markup_core::{MarkupFail, Piece};
 use doc_entries::node_id;
 use doc_forms::{DocFail, GroupBuilder, GroupDraft};
-use doc_values::{appended, is_marked, no_text};
-use doc_walk::{Tag, Walk, kept_with};
-use markup_core::{MarkupFail, Piece};
 use uuid_core::Uuid;
 
 /// The id of a group that begins at the offset, when all that is in it has been read. A group that

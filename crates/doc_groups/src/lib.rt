@@ -7,4 +7,5 @@ mod new_groups;
 mod roots;
 mod tombs;
 
+pub use doc_entries::{doc_walk, markup_core};
 pub use roots::root;

@@ -5,8 +5,8 @@ ghost use Rattle.doc_forms.specs.Groups as spec;
 ghost use Rattle.doc_forms.specs.Refusals.{Returns};
 ghost use Rattle.doc_forms.specs.SeenDrafts.{draft_seen, group_parts_seen};
 
+use doc_entries::doc_walk::{append, no_times};
 use doc_forms::{DocFail, GroupBuilder, GroupDraft};
-use doc_walk::{append, no_times};
 use outside_core::{List, Text};
 use std::alloc::Global;
 use uuid_core::Uuid;

@@ -4,13 +4,13 @@ ghost use Rattle.std.specs.Prelude.{◌≡◌};
 ghost use Rattle.doc_forms.specs.Children.{by_name};
 ghost use Rattle.doc_forms.specs.Documents as spec;
 ghost use Rattle.doc_forms.specs.SeenDrafts.{root_parts};
-ghost use Rattle.doc_walk.specs.Steps.{Steps};
-ghost use Rattle.doc_walk.specs.Tags.{child_step, contents_step};
+ghost use Rattle.doc_entries.specs.DocWalk.Steps.{Steps};
+ghost use Rattle.doc_entries.specs.DocWalk.Tags.{child_step, contents_step};
 
 use crate::groups::group;
 use crate::tombs::tombs;
+use doc_entries::doc_walk::{Parts, Tag, Walk, put, read_whole};
 use doc_forms::{DocFail, RootBuilder};
-use doc_walk::{Parts, Tag, Walk, put, read_whole};
 use outside_core::List;
 use std::alloc::Global;
 

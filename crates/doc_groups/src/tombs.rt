@@ -4,12 +4,12 @@ ghost use Rattle.std.specs.Prelude.{◌≡◌, ◌++◌, ◌∷◌, List, [], Ok
 ghost use Rattle.doc_forms.specs.Children.{by_name};
 ghost use Rattle.doc_forms.specs.Documents as spec;
 ghost use Rattle.doc_forms.specs.Refusals.{Returns};
-ghost use Rattle.doc_walk.specs.Steps.{Steps};
-ghost use Rattle.doc_walk.specs.Tags.{contents_step};
+ghost use Rattle.doc_entries.specs.DocWalk.Steps.{Steps};
+ghost use Rattle.doc_entries.specs.DocWalk.Tags.{contents_step};
 
+use doc_entries::doc_values::{IdValue, TimeValue};
+use doc_entries::doc_walk::{Parts, Tag, Walk, never, read_whole};
 use doc_forms::DocFail;
-use doc_values::{IdValue, TimeValue};
-use doc_walk::{Parts, Tag, Walk, never, read_whole};
 use outside_core::List;
 use uuid_core::Uuid;
 use vault_model::Tombstone;

@@ -13,9 +13,9 @@ ghost use Rattle.doc_walk.specs.Steps.{Steps};
 ghost use Rattle.doc_walk.specs.Tags.{child_step, contents_step};
 
 use doc_forms::{Binary, DocFail, ElementText};
-use doc_values::{Kind, SecretBytes, bytes_of, is_hidden, is_marked, number64, resolved};
+use doc_walk::doc_values::{Kind, SecretBytes, bytes_of, is_hidden, is_marked, number64, resolved};
+use doc_walk::markup_core::Attrs;
 use doc_walk::{Parts, Tag, Walk, read_whole};
-use markup_core::Attrs;
 use outside_core::List;
 use secret_core::Secret;
 use std::alloc::Global;

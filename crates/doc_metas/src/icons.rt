@@ -7,7 +7,7 @@ ghost use Rattle.doc_walk.specs.Steps.{Steps};
 ghost use Rattle.doc_walk.specs.Tags.{contents_step};
 
 use doc_forms::DocFail;
-use doc_values::{IdValue, KeyedList, OpenBytes, TextValue, TimeValue};
+use doc_walk::doc_values::{IdValue, KeyedList, OpenBytes, TextValue, TimeValue};
 use doc_walk::{Parts, Tag, Walk, never, read_whole};
 use outside_core::{Bytes, List, Text};
 use std::alloc::Global;

@@ -13,7 +13,7 @@ use crate::first_metas::{NO_LIMIT, no_meta};
 use crate::icons::icons;
 use crate::protections::protection;
 use doc_forms::{DocFail, MetaBuilder};
-use doc_values::{
+use doc_walk::doc_values::{
     FalseUnlessTrue, HashOrNone, IdValue, Number32, Signed32, Signed64, TextValue, TimeValue,
     TrueUnlessFalse,
 };

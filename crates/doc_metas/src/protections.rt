@@ -8,7 +8,7 @@ ghost use Rattle.doc_walk.specs.Steps.{Steps};
 ghost use Rattle.doc_walk.specs.Tags.{contents_step};
 
 use doc_forms::DocFail;
-use doc_values::{FalseUnlessTrue, TrueUnlessFalse};
+use doc_walk::doc_values::{FalseUnlessTrue, TrueUnlessFalse};
 use doc_walk::{Parts, Tag, Walk, read_whole};
 use vault_model::Protection;
 

@@ -8,8 +8,8 @@ use Rattle.doc_forms.specs.declared.cursor.Cursor.{Cursor}
 use Rattle.doc_forms.specs.declared.fails.DocFail.{DocFail}
 use Rattle.doc_forms.specs.declared.fails.DocFail.TheVariants.{BadValue}
 use Rattle.doc_forms.specs.Refusals.{Returns}
-use Rattle.doc_walk.proofs.Pieces.{carried}
-use Rattle.doc_walk.specs.Steps.{Course, Rest, Steps}
+use Rattle.doc_groups.proofs.DocWalk.Pieces.{carried}
+use Rattle.doc_groups.specs.DocWalk.Steps.{Course, Rest, Steps}
 
 -- kept where there was none before
 abbrev pub once : {P Q : Type 0} → Bool → ℕ → (Q → P) → Q × Cursor → Result (P × Cursor) DocFail

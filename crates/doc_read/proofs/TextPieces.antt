@@ -12,8 +12,8 @@ use Rattle.doc_forms.specs.Documents.{FileParts, document_rows, parts_in}
 use Rattle.doc_forms.specs.ElementTexts.{Setting, start}
 use Rattle.outside_core.specs.Results.{◌>>=◌}
 use Rattle.doc_forms.specs.Refusals.{Fails, Returns}
-use Rattle.doc_walk.proofs.Pieces.{carried}
-use Rattle.doc_walk.specs.Steps.{Course, course_of}
+use Rattle.doc_groups.proofs.DocWalk.Pieces.{carried}
+use Rattle.doc_groups.specs.DocWalk.Steps.{Course, course_of}
 use Rattle.doc_read.specs.TextSteps.{parts_left}
 
 -- where nothing of the text has been read

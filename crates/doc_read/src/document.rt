@@ -9,13 +9,13 @@ ghost use Rattle.doc_forms.specs.Refusals.{Returns};
 ghost use Rattle.doc_forms.specs.SeenDrafts.{file_parts};
 ghost use Rattle.doc_forms.specs.SeenTexts.{setting_of};
 ghost use Rattle.doc_read.specs.TextSteps.{parts_left};
-ghost use Rattle.doc_walk.specs.Steps.{Steps};
-ghost use Rattle.doc_walk.specs.Tags.{child_step};
+ghost use Rattle.doc_groups.specs.DocWalk.Steps.{Steps};
+ghost use Rattle.doc_groups.specs.DocWalk.Tags.{child_step};
 
 use crate::outermost::file;
 use doc_forms::{Cursor, DocFail, FileBuilder};
-use doc_walk::{Tag, Walk, known_after, put};
-use markup_core::{MarkupFail, Piece, Reader};
+use doc_groups::doc_walk::{Tag, Walk, known_after, put};
+use doc_groups::markup_core::{MarkupFail, Piece, Reader};
 use std::alloc::Global;
 use stream_core::InnerStream;
 use vault_model::DocForm;

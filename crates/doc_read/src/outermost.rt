@@ -4,13 +4,13 @@ ghost use Rattle.std.specs.Prelude.{◌≡◌};
 ghost use Rattle.doc_forms.specs.Children.{by_name};
 ghost use Rattle.doc_forms.specs.Documents as spec;
 ghost use Rattle.doc_forms.specs.SeenDrafts.{file_parts};
-ghost use Rattle.doc_walk.specs.Steps.{Steps};
-ghost use Rattle.doc_walk.specs.Tags.{child_step, contents_step};
+ghost use Rattle.doc_groups.specs.DocWalk.Steps.{Steps};
+ghost use Rattle.doc_groups.specs.DocWalk.Tags.{child_step, contents_step};
 
 use doc_forms::{DocFail, FileBuilder};
+use doc_groups::doc_walk::{Parts, Tag, Walk, put, read_whole};
 use doc_groups::root;
 use doc_metas::{meta, no_meta};
-use doc_walk::{Parts, Tag, Walk, put, read_whole};
 use std::alloc::Global;
 
 /// What is known of a `KeePassFile` before its end.

@@ -20,7 +20,7 @@ use Rattle.vault_model.specs.declared.forms.PoolItem.{PoolItem}
 use Rattle.vault_model.specs.declared.nodes.Entry.{Entry}
 use Rattle.vault_model.specs.declared.nodes.Group.{Group, out-Group}
 use Rattle.vault_model.specs.declared.nodes.Group.TheFolds.{fold_out-Group}
-use Rattle.doc_forms.specs.SeenDocuments.{pool_item}
+use Rattle.doc_spelling.specs.DocForms.SeenDocuments.{pool_item}
 use Rattle.doc_sinks.specs.Gathering.{Gathered, Gathers, HasNumbers, number_at}
 use Rattle.doc_sinks.specs.Pairs.{pool_pair, pool_pair_cmp}
 use Rattle.doc_sinks.specs.declared.pairs.Pair.{Pair}

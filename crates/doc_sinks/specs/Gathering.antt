@@ -4,7 +4,7 @@ use Rattle.std.specs.BTreeMap.{BTreeMap, get}
 use Rattle.std.specs.List.{list_any}
 use Rattle.std.specs.Ordering.{on}
 use Rattle.vault_model.specs.declared.forms.PoolItem.{PoolItem}
-use Rattle.doc_forms.specs.SeenDocuments.{pool_item}
+use Rattle.doc_spelling.specs.DocForms.SeenDocuments.{pool_item}
 use Rattle.doc_sinks.specs.Pairs.{pool_pair, pool_pair_cmp}
 use Rattle.doc_sinks.specs.declared.pairs.Pair.{Pair}
 use Rattle.doc_spelling.specs.Pool.{PoolPair, is_pair, number_in, with_pairs}

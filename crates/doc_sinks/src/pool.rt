@@ -1,7 +1,7 @@
 //! The pool of a document.
 
 ghost use Rattle.std.specs.Prelude.{◌≡◌, IfOk, map, true};
-ghost use Rattle.doc_forms.specs.SeenDocuments.{pool_item};
+ghost use Rattle.doc_spelling.specs.DocForms.SeenDocuments.{pool_item};
 ghost use Rattle.doc_spelling.specs.Pool as spec;
 ghost use Rattle.doc_spelling.specs.Ranges.{are_bytes};
 ghost use Rattle.vault_model.specs.SeenDoc.{doc_seen};
@@ -23,7 +23,7 @@ pub struct Pool<'a> {
 }
 
 impl<'a> Model for Pool<'a> {
-    ghost use Rattle.doc_forms.specs.SeenDocuments.{pool_item};
+    ghost use Rattle.doc_spelling.specs.DocForms.SeenDocuments.{pool_item};
     ghost use Rattle.doc_sinks.specs.Gathering.{HasNumbers};
     ghost use Rattle.doc_spelling.specs.Pool.{PoolPair};
     ghost use Rattle.std.specs.Prelude.{List, map};

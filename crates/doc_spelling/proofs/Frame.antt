@@ -26,7 +26,7 @@ use Rattle.doc_spelling.proofs.Goods.{Each}
 use Rattle.doc_spelling.proofs.ValueTexts.{Says, stream_bytes, decoded_back, xored_bytes}
 use Rattle.stream_core.proofs.StreamLemmas.{length-xored, xored-xored}
 use Rattle.doc_forms.specs.ElementTexts.{ElementText, plain_text, hidden_bytes}
-use Rattle.text_forms.specs.Texts.{base64_bytes, trim}
+use Rattle.doc_forms.specs.TextForms.Texts.{base64_bytes, trim}
 use Rattle.doc_spelling.specs.Pieces.{Piece, leaf, secret, box, Pieces, none, beside, ◌▹▹◌, attributes_text, protected_attribute, hidden_text, in_memory_attribute, hidden_len, hidden_len_all, element_of, content_of}
 
 -- ---- how much has been read

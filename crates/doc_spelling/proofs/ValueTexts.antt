@@ -35,7 +35,7 @@ use Rattle.doc_spelling.proofs.Goods.{Each, IsSigned}
 use Rattle.doc_spelling.specs.Values.{bool_text, tri_text}
 use Rattle.doc_forms.specs.Entries.{id_or_none}
 use Rattle.doc_forms.specs.ElementTexts.{ElementText, plain_text}
-use Rattle.text_forms.specs.Texts.{trim, base64_bytes, bytes_of_length}
+use Rattle.doc_forms.specs.TextForms.Texts.{trim, base64_bytes, bytes_of_length}
 use Rattle.doc_forms.specs.Values.{value_or, id, boolean, choice, whole_number, number_between, bytes_in, number_up_to, little_endian, counted_time, iso_time, time, moment_in, stamp_in_range}
 
 -- ---- bytes

@@ -8,3 +8,4 @@ pub mod Pool
 pub mod Ranges
 pub mod Values
 pub mod ResolvedParts
+pub use Rattle.doc_forms.specs as DocForms

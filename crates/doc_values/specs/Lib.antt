@@ -1,0 +1,1 @@
+pub use Rattle.markup_core.specs as MarkupCore

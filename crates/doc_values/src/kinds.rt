@@ -6,7 +6,7 @@ ghost use Rattle.vault_model.specs.Db.{NodeId, nil_id};
 ghost use Rattle.vault_model.specs.declared.contents.Tri.TheVariants.{Inherit};
 ghost use Rattle.doc_forms.specs.ElementTexts.{ElementText, text_bytes};
 ghost use Rattle.doc_forms.specs.Values as spec;
-ghost use Rattle.text_forms.specs.Texts as texts;
+ghost use Rattle.doc_forms.specs.TextForms.Texts as texts;
 ghost use Rattle.doc_forms.specs.Entries.{id_or_none};
 ghost use Rattle.doc_forms.specs.Refusals.{Returns};
 ghost use Rattle.doc_forms.specs.SeenTexts.{text_seen};

@@ -14,4 +14,6 @@ pub use kinds::{
     TrueUnlessFalse,
 };
 pub use marks::{appended, base64_bytes, bytes_of, is_hidden, is_marked, no_text, resolved};
+pub use markup_core;
+pub use text_core;
 pub use values::number64;

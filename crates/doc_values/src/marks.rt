@@ -1,8 +1,8 @@
 //! Texts of markup in memory, with their escapes resolved, and what attributes mark.
 
 ghost use Rattle.std.specs.Prelude.{◌≡◌, ◌++◌, [], Ok, option_map};
-ghost use Rattle.markup_grammar.specs.Escapes as escapes;
-ghost use Rattle.text_forms.specs.Texts as texts;
+ghost use Rattle.doc_forms.specs.MarkupGrammar.Escapes as escapes;
+ghost use Rattle.doc_forms.specs.TextForms.Texts as texts;
 ghost use Rattle.doc_forms.specs.ElementTexts as spec;
 ghost use Rattle.doc_forms.specs.Refusals.{Returns};
 

@@ -3,8 +3,8 @@ use Rattle.std.proofs.Common.{◌≡◌, ℕ, ◌<◌, List, [], ◌∷◌, ◌+
 use Rattle.markup_grammar.specs.Answers.{Answer, start, words, stop, form, depth}
 use Rattle.markup_grammar.specs.Elements.{Content, last, also, cut, innermost, outer_contents, open_contents, own_text, with_text_before}
 use Rattle.markup_grammar.specs.Escapes.{unescaped}
-use Rattle.stream_core.specs.InnerStream.{Keystream, keystream}
-use Rattle.stream_core.specs.declared.inner.InnerStream.{InnerStream}
+use Rattle.doc_forms.specs.StreamCore.InnerStream.{Keystream, keystream}
+use Rattle.doc_forms.specs.StreamCore.declared.inner.InnerStream.{InnerStream}
 use Rattle.vault_model.specs.declared.forms.DocForm.{DocForm}
 use Rattle.doc_forms.specs.declared.cursor.Cursor.{Cursor}
 use Rattle.doc_forms.specs.declared.fails.DocFail.{DocFail}

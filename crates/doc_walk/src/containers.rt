@@ -7,8 +7,8 @@ ghost use Rattle.doc_walk.specs.Tags.{contents_step, counted_step, child_step};
 
 use crate::walk::{Tag, Walk};
 use doc_forms::DocFail;
+use doc_values::markup_core::{MarkupFail, Piece};
 use doc_values::{appended, is_marked, no_text};
-use markup_core::{MarkupFail, Piece};
 
 /// What is known of an element before its end, while the elements in it are read one after another.
 pub trait Parts: Drop {

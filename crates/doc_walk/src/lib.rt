@@ -10,6 +10,8 @@ mod whole_parts;
 
 pub use containers::{Parts, contents, hold, read_counted, read_whole};
 pub use custom_items::custom_data;
+pub use doc_values;
+pub use doc_values::markup_core;
 pub use element_times::{never, no_times, times};
 pub use walk::{Tag, Walk};
 pub use whole_parts::{append, kept_with, known_after, put};

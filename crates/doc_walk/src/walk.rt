@@ -1,23 +1,23 @@
 //! A walk over the elements of a document: what is read from, and how far it has been read.
 
 ghost use Rattle.std.specs.Prelude.{◌≡◌, ◌++◌, length, Ok};
-ghost use Rattle.markup_core.specs.Next.{Answers};
+ghost use Rattle.doc_values.specs.MarkupCore.Next.{Answers};
 ghost use Rattle.doc_forms.specs.Children.{count_node};
 ghost use Rattle.doc_forms.specs.ElementTexts as spec;
 ghost use Rattle.doc_forms.specs.Refusals.{Returns};
 ghost use Rattle.doc_forms.specs.SeenTexts.{text_seen, setting_of};
-ghost use Rattle.stream_core.specs.InnerStream.{IsAt};
+ghost use Rattle.doc_forms.specs.StreamCore.InnerStream.{IsAt};
 ghost use Rattle.doc_walk.specs.Steps.{Steps, course_of};
 ghost use Rattle.doc_walk.specs.Tags.{text_step, check_step, value_step, pass_step};
 
+use doc_forms::stream_core::InnerStream;
 use doc_forms::{Cursor, DocFail, ElementText};
+use doc_values::markup_core::{Attrs, MarkupFail, Piece, Reader};
+use doc_values::text_core::trim;
 use doc_values::{Kind, appended, base64_bytes, bytes_of, is_hidden, is_marked, no_text};
-use markup_core::{Attrs, MarkupFail, Piece, Reader};
 use secret_core::Secret;
 use std::alloc::Global;
 use std::marker::Model;
-use stream_core::InnerStream;
-use text_core::trim;
 use vault_model::DocForm;
 
 /// The most bytes that a stream hides. No text that a document may have comes near it.
@@ -42,7 +42,7 @@ pub struct Walk<'t> {
 }
 
 impl<'t> Model for Walk<'t> {
-    ghost use Rattle.stream_core.specs.InnerStream.{IsAt};
+    ghost use Rattle.doc_forms.specs.StreamCore.InnerStream.{IsAt};
     ghost use Rattle.doc_forms.specs.SeenTexts.{setting_of};
     ghost use Rattle.doc_walk.specs.Steps.{Course};
 

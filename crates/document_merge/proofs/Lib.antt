@@ -1,1 +1,2 @@
 pub mod MergedDocs
+pub use Rattle.merge_checks.proofs as MergeChecks

@@ -13,10 +13,10 @@ use Rattle.vault_model.proofs.Tests.{from_map}
 use Rattle.merge_core.specs.Marking.{strays}
 use Rattle.merge_core.specs.Refusals.{CanMerge, kind_clashes, least, members, root_clashes, too_deep}
 use Rattle.merge_core.proofs.Refused.{acyclic, merged_is, one_kind, one_root, sound}
-use Rattle.merge_join.specs.declared.marking.JoinRefusal.{JoinRefusal}
-use Rattle.merge_join.specs.declared.marking.JoinRefusal.TheVariants.{Stray}
-use Rattle.merge_join.specs.declared.marking.JoinRefusal.TheVariants as refusal
-use Rattle.merge_join.specs.Marks.{IsKeptResult}
+use Rattle.merge_checks.specs.MergeJoin.declared.marking.JoinRefusal.{JoinRefusal}
+use Rattle.merge_checks.specs.MergeJoin.declared.marking.JoinRefusal.TheVariants.{Stray}
+use Rattle.merge_checks.specs.MergeJoin.declared.marking.JoinRefusal.TheVariants as refusal
+use Rattle.merge_checks.specs.MergeJoin.Marks.{IsKeptResult}
 use Rattle.merge_checks.specs.Cycles.{cycle_above}
 use Rattle.merge_checks.proofs.OwnDocs.{is_doc}
 use Rattle.document_merge.specs.declared.merging.MergeFail.{MergeFail}

@@ -6,15 +6,15 @@ use Rattle.vault_model.specs.Db.{NodeId, Db}
 use Rattle.vault_model.specs.Join.{join}
 use Rattle.vault_model.specs.SeenDoc.{doc_seen}
 use Rattle.vault_model.specs.Shape.{lay}
-use Rattle.merge_nodes.specs.Shapes.{shape}
+use Rattle.merge_arranging.specs.MergeNodes.Shapes.{shape}
 use Rattle.vault_model.specs.Tree.{BareDoc, LEVELS, db_in, lay_doc, shape_of}
-use Rattle.merge_changes.specs.Equality.{same_all, same_doc, same_meta, same_tomb}
+use Rattle.merge_checks.specs.MergeChanges.Equality.{same_all, same_doc, same_meta, same_tomb}
 use Rattle.merge_core.specs.Marking.{strays}
 use Rattle.merge_core.specs.Refusals.{CanMerge, kind_clashes, least, members, root_clashes, too_deep}
-use Rattle.merge_join.specs.declared.marking.JoinRefusal.{JoinRefusal}
-use Rattle.merge_join.specs.declared.marking.JoinRefusal.TheVariants.{Stray}
-use Rattle.merge_join.specs.declared.marking.JoinRefusal.TheVariants as refusal
-use Rattle.merge_changes.specs.Changes.{all_changes, node_changes}
+use Rattle.merge_checks.specs.MergeJoin.declared.marking.JoinRefusal.{JoinRefusal}
+use Rattle.merge_checks.specs.MergeJoin.declared.marking.JoinRefusal.TheVariants.{Stray}
+use Rattle.merge_checks.specs.MergeJoin.declared.marking.JoinRefusal.TheVariants as refusal
+use Rattle.merge_checks.specs.MergeChanges.Changes.{all_changes, node_changes}
 use Rattle.merge_checks.specs.Cycles.{cycle_above}
 use Rattle.document_merge.specs.declared.merging.MergeFail.{MergeFail}
 use Rattle.document_merge.specs.declared.merging.MergeFail.TheVariants.{RootClash, KindClash, MoveCycle, TooDeep, NoMemory}

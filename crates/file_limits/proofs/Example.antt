@@ -23,10 +23,10 @@ use Rattle.kdbx_frame.specs.declared.settings.Settings.{Settings}
 use Rattle.kdbx_writing.specs.Header.{spelled_header}
 use Rattle.kdbx_writing.specs.Kdf.{spelled_kdf}
 use Rattle.kdbx_writing.specs.declared.draws.Draws.{Draws}
-use Rattle.kdbx_seal.specs.Answers.{refusal_of, size_refusal}
-use Rattle.kdbx_seal.specs.Made.{hash_kept, made_file}
-use Rattle.kdbx_seal.specs.PayloadMade.{written_keystream}
-use Rattle.kdbx_seal.specs.declared.fail.SealFail.TheVariants.{TooLarge}
+use Rattle.cli_sealing.specs.KdbxSeal.Answers.{refusal_of, size_refusal}
+use Rattle.cli_sealing.specs.KdbxSeal.Made.{hash_kept, made_file}
+use Rattle.cli_sealing.specs.KdbxSeal.PayloadMade.{written_keystream}
+use Rattle.cli_sealing.specs.KdbxSeal.declared.fail.SealFail.TheVariants.{TooLarge}
 use Rattle.cli_writing.specs.Drawing.{next_bytes}
 use Rattle.cli_writing.specs.Writing.{file_or_refusal}
 use Rattle.cli_sealing.specs.Draws.{after_draws}

@@ -25,8 +25,8 @@ use Rattle.kdbx_frame.specs.declared.settings.Cipher.TheVariants.{Aes, ChaCha, T
 use Rattle.kdbx_payload.specs.HeaderMacs.{header_mac}
 use Rattle.kdbx_writing.specs.Fields.{spelled_field}
 use Rattle.kdbx_writing.specs.Inner.{binary_field, inner_fields, spelled_inner}
-use Rattle.kdbx_seal.specs.Enciphered.{enciphered_text}
-use Rattle.kdbx_seal.specs.Made.{attached_file}
+use Rattle.cli_sealing.specs.KdbxSeal.Enciphered.{enciphered_text}
+use Rattle.cli_sealing.specs.KdbxSeal.Made.{attached_file}
 use Rattle.kdbx_blocks.specs.Pieces.{blocks_to_end, pieces, pieces_of}
 
 -- ---- blocks of a file of version 4

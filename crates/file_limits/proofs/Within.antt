@@ -27,12 +27,12 @@ use Rattle.kdbx_writing.specs.declared.draws.Draws.{Draws}
 use Rattle.kdbx_writing.specs.Draws.{AreDrawn, AreFront, start_len, stream_len}
 use Rattle.kdbx_writing.specs.Header.{header_with, spelled_header}
 use Rattle.kdbx_writing.specs.Inner.{spelled_inner}
-use Rattle.kdbx_seal.specs.Answers.{refusal_of, size_refusal}
-use Rattle.kdbx_seal.specs.Made.{files_of, made_file, text_4}
+use Rattle.cli_sealing.specs.KdbxSeal.Answers.{refusal_of, size_refusal}
+use Rattle.cli_sealing.specs.KdbxSeal.Made.{files_of, made_file, text_4}
 use Rattle.kdbx_blocks.specs.Pieces.{blocks_to_end, hashed_to_end, pieces}
-use Rattle.kdbx_seal.specs.PayloadMade.{chacha_keystream, content_of, file_of_4, made_with, plain_content_31, plain_content_4, written_keystream}
-use Rattle.kdbx_seal.specs.declared.fail.SealFail.{SealFail}
-use Rattle.kdbx_seal.specs.declared.fail.SealFail.TheVariants as seal
+use Rattle.cli_sealing.specs.KdbxSeal.PayloadMade.{chacha_keystream, content_of, file_of_4, made_with, plain_content_31, plain_content_4, written_keystream}
+use Rattle.cli_sealing.specs.KdbxSeal.declared.fail.SealFail.{SealFail}
+use Rattle.cli_sealing.specs.KdbxSeal.declared.fail.SealFail.TheVariants as seal
 use Rattle.kdbx_blocks.proofs.HashedPieces.{hashed_to_end_len}
 use Rattle.cli_messages.specs.declared.answers.Refusal.{Refusal}
 use Rattle.cli_writing.specs.Drawing.{next_bytes}

@@ -7,7 +7,7 @@ use Rattle.kdbx_frame.specs.declared.settings.Cipher.TheVariants.{ChaCha}
 use Rattle.kdbx_frame.specs.declared.settings.Settings.{Settings}
 use Rattle.kdbx_writing.specs.declared.draws.Draws.{Draws}
 use Rattle.kdbx_writing.specs.Draws.{AreDrawn}
-use Rattle.kdbx_seal.specs.Answers.{size_refusal}
+use Rattle.cli_sealing.specs.KdbxSeal.Answers.{size_refusal}
 use Rattle.cli_writing.specs.Writing.{NewFile, plain_file}
 use Rattle.cli_sealing.specs.Draws.{draws_of}
 use Rattle.cli_sealing.specs.Sealing.{sealed_file}

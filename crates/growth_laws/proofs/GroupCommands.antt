@@ -20,9 +20,9 @@ use Rattle.tree_core.proofs.Counted.{once}
 use Rattle.tree_core.proofs.GroupMoves.{to_there}
 use Rattle.tree_core.proofs.Named.{group_there, named_group}
 use Rattle.tree_core.proofs.Options.{never}
-use Rattle.tree_moves.specs.GroupPlaces.{group_at}
-use Rattle.tree_moves.proofs.GroupChildren.{found_child, off_goal}
-use Rattle.tree_moves.proofs.GroupParents.{flipped, parent_found}
+use Rattle.tree_removals.specs.TreeMoves.GroupPlaces.{group_at}
+use Rattle.tree_removals.proofs.TreeMoves.GroupChildren.{found_child, off_goal}
+use Rattle.tree_removals.proofs.TreeMoves.GroupParents.{flipped, parent_found}
 use Rattle.tree_removals.proofs.GroupBins.{found, free_elsewhere, parent_of_last, u_off_bin}
 use Rattle.tree_removals.proofs.LastGroups.{last_there}
 use Rattle.growth_laws.specs.Growth.{MakeGroupGrows, MoveGroupGrows, RemoveGroupGrows}

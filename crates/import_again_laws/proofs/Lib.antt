@@ -4,3 +4,4 @@ pub mod Replaced
 pub mod Moments
 pub mod Sources
 pub mod Replacing
+pub use Rattle.import_laws.proofs as ImportLaws

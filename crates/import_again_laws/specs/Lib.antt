@@ -1,1 +1,2 @@
 pub mod Again
+pub use Rattle.import_laws.specs as ImportLaws

@@ -1,6 +1,6 @@
 -- Groups below the last level, and the least of some ids.
 use Rattle.std.proofs.Common.{◌≡◌, ◌≤◌, ◌-◌, true, Result, Ok, Err, OnOk, append_assoc, append-nil, ℕ, suc, zero, List, [], ◌∷◌, ◌++◌, Option, None, Some, map, refl, sym, ap, ◌∙◌, arith}
-use Rattle.doc_forms.specs.Ids.{least_duplicate}
+use Rattle.doc_resolving.specs.DocForms.Ids.{least_duplicate}
 use Rattle.doc_resolving.proofs.ResolvedTrees.{distinct_ids}
 use Rattle.outside_core.specs.Results.{◌>>=◌}
 use Rattle.vault_model.specs.Db.{NodeId}

@@ -18,7 +18,7 @@ use Rattle.tree_core.proofs.Options.{never}
 use Rattle.tree_core.specs.Changes.{with_group, with_last}
 use Rattle.tree_core.specs.NewNodes.{empty_group}
 use Rattle.tree_groups.proofs.GroupPuts.{group_put}
-use Rattle.tree_steps.proofs.InPlace.{record_seen, seen_with_entries, seen_with_groups, trees, with_entries, with_groups}
+use Rattle.tree_groups.proofs.TreeSteps.InPlace.{record_seen, seen_with_entries, seen_with_groups, trees, with_entries, with_groups}
 use Rattle.vault_model.specs.declared.nodes.Entry.{Entry}
 use Rattle.import_ids.specs.Ids.{named_id}
 use Rattle.import_tree.specs.Trees.{new_groups, with_rows, with_rows_among}

@@ -2,7 +2,7 @@
 use Rattle.std.specs.Prelude.{◌≡◌, ℕ, Bool, true, false, Option, None, Some, List, [], ◌∷◌, ◌++◌, codes}
 use Rattle.std.specs.Option.{ForSome}
 use Rattle.std.specs.Str.{is_utf8}
-use Rattle.doc_forms.specs.Entries.{no_content}
+use Rattle.doc_resolving.specs.DocForms.Entries.{no_content}
 use Rattle.import_ids.specs.Names.{EntryTexts}
 use Rattle.vault_model.specs.Bare.{BareContent, BareField}
 use Rattle.vault_model.specs.Db.{NodeId, nil_id}

@@ -6,3 +6,4 @@ pub mod Branches
 pub mod SeenBranches
 pub mod SeenDrafts
 pub mod Placing
+pub use Rattle.doc_resolving.specs.DocForms

@@ -1,6 +1,6 @@
 -- What imported entries give, or the first reason why they are not taken.
 use Rattle.std.specs.Prelude.{ℕ, zero, suc, Option, None, Some, List, [], ◌∷◌, ◌++◌, Result, Ok, Err}
-use Rattle.doc_forms.specs.Ids.{least_duplicate, lesser_id}
+use Rattle.doc_resolving.specs.DocForms.Ids.{least_duplicate, lesser_id}
 use Rattle.import_tree.specs.Entries.{ImportedEntry}
 use Rattle.import_tree.specs.Trees.{document_of}
 use Rattle.import_tree.specs.declared.fails.TreeFail.{TreeFail}

@@ -1,7 +1,7 @@
 //! What a draft is refused for, whatever its depth, with no tree of it in memory.
 
 ghost use Rattle.std.specs.Prelude.{◌≡◌, [], ◌∷◌, ◌++◌, IfOk, OnOk, map};
-ghost use Rattle.doc_forms.specs.Ids.{least_duplicate};
+ghost use Rattle.doc_resolving.specs.DocForms.Ids.{least_duplicate};
 ghost use Rattle.import_tree.specs.Branches.{deep_id};
 ghost use Rattle.import_tree.specs.Outcome as spec;
 ghost use Rattle.import_tree.specs.SeenBranches.{TakesApart, ways_seen};

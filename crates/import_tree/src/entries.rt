@@ -10,7 +10,7 @@ use crate::imported::ImportedEntry;
 use outside_core::{List, NoMemory, Text};
 use secret_core::Secret;
 use std::alloc::Global;
-use tree_steps::put_last;
+use tree_groups::tree_steps::put_last;
 use uuid_core::Uuid;
 use vault_model::{AutoType, Content, Entry, Field, Stamp, Stats, Version};
 

@@ -1,7 +1,7 @@
 //! What a tree is refused for: ids that two nodes have, and too many levels.
 
 ghost use Rattle.std.specs.Prelude.{◌≡◌, ◌++◌, IfOk, OnOk};
-ghost use Rattle.doc_forms.specs.Ids.{least_duplicate};
+ghost use Rattle.doc_resolving.specs.DocForms.Ids.{least_duplicate};
 ghost use Rattle.import_tree.specs.Outcome as spec;
 ghost use Rattle.vault_model.specs.SeenNodes.{tree_seen};
 ghost use Rattle.vault_model.specs.Tree.{node_ids};

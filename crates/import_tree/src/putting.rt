@@ -11,7 +11,7 @@ ghost use Rattle.vault_model.specs.declared.nodes.Group.{out-Group};
 use outside_core::{List, NoMemory, Text};
 use std::alloc::Global;
 use tree_groups::new_group;
-use tree_steps::put_last;
+use tree_groups::tree_steps::put_last;
 use uuid_core::Uuid;
 use vault_model::{Entry, Group, Stamp};
 

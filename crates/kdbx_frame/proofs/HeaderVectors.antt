@@ -1,7 +1,7 @@
 -- The definition of a header on a whole one, so that a wrong order, offset or type in it does not check.
 use Rattle.std.proofs.Common.{◌≡◌, ℕ, List, [], ◌∷◌, ◌++◌, None, Ok, refl}
 use Rattle.sha2.specs.Sha256.{compress, digest_bytes, first_words, hash_after, rounds, schedule, sha256}
-use Rattle.key_core.specs.declared.kdf.Kdf.TheVariants.{Aes}
+use Rattle.kdbx_parts.specs.KeyCore.declared.kdf.Kdf.TheVariants.{Aes}
 use Rattle.kdbx_frame.specs.declared.settings.Cipher.TheVariants.{ChaCha}
 use Rattle.vault_model.specs.declared.forms.FileVersion.TheVariants.{V40}
 use Rattle.kdbx_parts.specs.Dictionary.{description_of, dictionary_of, item_at, item_step, with_item}

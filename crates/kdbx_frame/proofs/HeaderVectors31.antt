@@ -1,6 +1,6 @@
 -- The definition of a header of version 3.1 on whole ones, so that a wrong order, width or type in it does not check.
 use Rattle.std.proofs.Common.{◌≡◌, ℕ, List, [], ◌∷◌, ◌++◌, None, Ok, Err, codes, refl}
-use Rattle.key_core.specs.declared.kdf.Kdf.TheVariants.{Aes}
+use Rattle.kdbx_parts.specs.KeyCore.declared.kdf.Kdf.TheVariants.{Aes}
 use Rattle.vault_model.specs.declared.forms.FileVersion.TheVariants.{V31}
 use Rattle.kdbx_parts.specs.declared.fail.FrameFail.TheVariants.{FieldLength, FieldMissing, FieldTwice, Truncated}
 use Rattle.kdbx_parts.specs.Parts.{field_at}

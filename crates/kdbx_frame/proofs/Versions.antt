@@ -1,6 +1,6 @@
 -- What a version of KDBX 4 can have.
 use Rattle.std.proofs.Common.{ℕ, List, Option}
-use Rattle.key_core.specs.declared.kdf.Kdf.{Kdf}
+use Rattle.kdbx_parts.specs.KeyCore.declared.kdf.Kdf.{Kdf}
 use Rattle.vault_model.specs.declared.forms.FileVersion.{FileVersion}
 use Rattle.vault_model.specs.declared.forms.FileVersion.TheVariants.{V31, V40, V41}
 use Rattle.kdbx_frame.specs.Settings.{IsOfVersion, IsVersion4}

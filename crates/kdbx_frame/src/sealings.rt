@@ -1,6 +1,6 @@
 //! What a file is sealed with.
 use crate::settings::Settings;
-use secret_core::Key;
+use vault_model::secret_core::Key;
 
 /// What a file is sealed with, once it was opened.
 pub struct Sealing {

@@ -1,7 +1,7 @@
 //! The settings that the fields of a header give.
 
 ghost use Rattle.std.specs.Prelude.{◌≡◌, ◌-◌, ◌≤◌, ◌++◌, IfOk, IfSome, None, Ok, length, option_map, replicate};
-ghost use Rattle.key_core.specs.Kdf.{IsChecked};
+ghost use Rattle.kdbx_parts.specs.KeyCore.Kdf.{IsChecked};
 ghost use Rattle.outside_core.specs.Results.{Returns};
 ghost use Rattle.kdbx_parts.specs.Results.{meaning_of};
 ghost use Rattle.vault_model.specs.declared.forms.FileVersion.TheVariants.{V31};
@@ -12,8 +12,8 @@ ghost use Rattle.kdbx_parts.specs.Dictionary as dictionary;
 ghost use Rattle.kdbx_parts.specs.SeenDictionary.{description_seen};
 
 use crate::fields::HeaderFields;
+use kdbx_parts::key_core::{Kdf, check_kdf};
 use kdbx_parts::{FrameFail, KdfDescription, copy_of, required, same};
-use key_core::{Kdf, check_kdf};
 use outside_core::Bytes;
 use std::alloc::Global;
 use uuid_core::Uuid;

@@ -2,8 +2,8 @@
 -- they describe.
 use Rattle.std.specs.Prelude.{ℕ, ◌-◌, List, [], ◌∷◌, length, drop, Bool, true, false, not, ◌||◌, Option, Some, None, Result, Ok, Err, ◌==◌, slice_index, if◌then◌else◌, codes, bytes_eq}
 use Rattle.std.specs.Int.{w16, w32, w64, from_le_bytes}
-use Rattle.argon_core.specs.declared.params.ArgonKind.{ArgonKind}
-use Rattle.argon_core.specs.declared.params.ArgonKind.TheVariants.{D, Id}
+use Rattle.key_core.specs.ArgonCore.declared.params.ArgonKind.{ArgonKind}
+use Rattle.key_core.specs.ArgonCore.declared.params.ArgonKind.TheVariants.{D, Id}
 use Rattle.outside_core.specs.Results.{◌>>=◌, repeat_steps}
 use Rattle.kdbx_parts.specs.declared.fail.FrameFail.{FrameFail}
 use Rattle.kdbx_parts.specs.declared.fail.FrameFail.TheVariants.{Dictionary}

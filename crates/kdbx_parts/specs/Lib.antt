@@ -3,3 +3,4 @@ pub mod Results
 pub mod Seen
 pub mod Dictionary
 pub mod SeenDictionary
+pub use Rattle.key_core.specs as KeyCore

@@ -8,7 +8,7 @@ ghost use Rattle.kdbx_parts.specs.declared.fail.FrameFail.TheVariants.{Dictionar
 ghost use Rattle.kdbx_parts.specs.SeenDictionary.{item_seen, items_seen, keys_seen, description_seen};
 
 use crate::{FrameFail, array_of, same, split_bytes, u32_of, u64_of};
-use argon_core::ArgonKind;
+use key_core::argon_core::ArgonKind;
 
 /// The id of AES as a key derivation.
 const AES_KDF: [u8; 16] = [

@@ -5,3 +5,4 @@ pub mod SealedPayloads
 mod StartBytes
 pub mod Steps
 pub mod Refusals
+pub use Rattle.kdbx_frame.proofs as KdbxFrame

@@ -6,3 +6,7 @@ pub mod Reading
 pub mod Results
 pub mod Sealed
 pub mod Seen
+pub use Rattle.kdbx_frame.specs as KdbxFrame
+pub use Rattle.kdbx_inner.specs as KdbxInner
+pub use Rattle.kdbx_frame.specs.KdbxParts
+pub use Rattle.kdbx_frame.specs.KeyCore

@@ -12,5 +12,7 @@ mod text;
 
 pub use fail::PayloadFail;
 pub use header_macs::header_mac;
+pub use kdbx_frame;
+pub use kdbx_frame::key_core;
 pub use payload::{Payload, payload_in};
 pub use text::TextReader;

@@ -12,11 +12,11 @@ use Rattle.outside_core.specs.declared.fails.FileFail.TheVariants as file
 use Rattle.outside_core.proofs.Results.{fails_at_first}
 use Rattle.secret_core.specs.ReadFail.{read_fail_of}
 use Rattle.secret_core.specs.declared.files.ReadFail.TheVariants.{TooLarge, NoMemory}
-use Rattle.kdbx_parts.specs.Results as parts
-use Rattle.kdbx_parts.specs.declared.fail.FrameFail.{FrameFail}
-use Rattle.kdbx_frame.specs.Header.{header_at, header_of}
-use Rattle.kdbx_frame.specs.declared.header.Header.{Header}
-use Rattle.kdbx_frame.proofs.Prefixes.{same_start}
+use Rattle.kdbx_payload.specs.KdbxParts.Results as parts
+use Rattle.kdbx_payload.specs.KdbxParts.declared.fail.FrameFail.{FrameFail}
+use Rattle.kdbx_payload.specs.KdbxFrame.Header.{header_at, header_of}
+use Rattle.kdbx_payload.specs.KdbxFrame.declared.header.Header.{Header}
+use Rattle.kdbx_payload.proofs.KdbxFrame.Prefixes.{same_start}
 use Rattle.kdbx_payload.specs.HeaderMacs.{base_of, key_of}
 use Rattle.kdbx_payload.specs.Parts.{frame_or_refusal}
 use Rattle.kdbx_payload.specs.Payloads as payloads
@@ -24,7 +24,7 @@ use Rattle.kdbx_payload.specs.Payloads.{hidden_text, payload_in, payload_of}
 use Rattle.kdbx_payload.specs.Results.{Refuses, Returns, meaning_of, of_frame}
 use Rattle.kdbx_reading.specs.Stored.{HasSize, IsFront, OfFileWith, PayloadOfName}
 use Rattle.kdbx_payload.specs.declared.fail.PayloadFail.{PayloadFail}
-use Rattle.kdbx_frame.proofs.HeaderSizes.{header_of_size}
+use Rattle.kdbx_payload.proofs.KdbxFrame.HeaderSizes.{header_of_size}
 use Rattle.kdbx_payload.proofs.Refusals.{frame_refused}
 use Rattle.kdbx_reading.proofs.StoredFiles.{some_file}
 

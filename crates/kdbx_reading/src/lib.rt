@@ -4,4 +4,5 @@
 
 mod reading;
 
+pub use kdbx_payload;
 pub use reading::read_payload;

@@ -1,7 +1,7 @@
 //! Sealing a payload.
 
 ghost use Rattle.std.specs.Prelude.{◌≡◌, ◌+◌, ◌≤◌, ◌^◌, ◌++◌, ℕ, IfSome, IsSome, IsErrOf, OnOk, None, Some, length};
-ghost use Rattle.key_core.specs.Kdf.{IsChecked};
+ghost use Rattle.kdbx_frame.specs.KeyCore.Kdf.{IsChecked};
 ghost use Rattle.outside_core.specs.Counts.{HasCause};
 ghost use Rattle.outside_core.specs.Reports.{StaysTruthful};
 ghost use Rattle.kdbx_frame.specs.Header.{sums_len};
@@ -15,10 +15,10 @@ ghost use Rattle.kdbx_seal.specs.Parts.{IsUndone, parts_base, parts_file, parts_
 use crate::SealPayloadFail;
 use crate::ciphering::encipher;
 use kdbx_blocks::append_blocks;
+use kdbx_frame::key_core::{FileKeys, file_keys, transform};
 use kdbx_frame::{FileVersion, HEADER_LIMIT, Settings, sums_len};
 use kdbx_payload::header_mac;
 use kdbx_writing::{Draws, with_salt, write_header};
-use key_core::{FileKeys, file_keys, transform};
 use outside_core::{FileFail, FileStore};
 use secret_core::{Key, Key64, Secret};
 use sha2::{Digest, Sha256};

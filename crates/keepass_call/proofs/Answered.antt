@@ -18,15 +18,15 @@ use Rattle.cli_parse.specs.Words.{command_of}
 use Rattle.cli_standalone.specs.Standalone.{standalone_of}
 use Rattle.cli_needs.specs.declared.command.Command.{Command}
 use Rattle.cli_writing.specs.Writing.{IsSame, KeepsDraft, KeepsFiles, Store}
-use Rattle.cli_commands.specs.declared.output.Output.{Output}
+use Rattle.session_run.specs.CliCommands.declared.output.Output.{Output}
 use Rattle.cli_files.specs.declared.task.Task as memory
-use Rattle.cli_commands.specs.Commands.{may_store}
+use Rattle.session_run.specs.CliCommands.Commands.{may_store}
 use Rattle.cli_files.proofs.HeldKeys.{in_turn}
-use Rattle.call_run.specs.Endings.{Ending, Ends, EndsRefused, IsOfDice, IsOfSomeDice, carried_out}
+use Rattle.session_run.specs.CallRun.Endings.{Ending, Ends, EndsRefused, IsOfDice, IsOfSomeDice, carried_out}
 use Rattle.cli_pages.specs.Pages.{page_of}
 use Rattle.keepass_call.specs.Outcome.{AsksCommand, IsOfSomeFile, IsOfTask, World, answer_of, command_answer, draws_with, may_store_by, page_or_answer, standalone_or_command, truth}
 use Rattle.keepass_call.proofs.Pages.{asks_command}
-use Rattle.cli_commands.specs.SeenChange.{output_text}
+use Rattle.session_run.specs.CliCommands.SeenChange.{output_text}
 use Rattle.cli_files.specs.Tasks.{Task, draws, draws_by}
 use Rattle.call_input.specs.Reading.{HasSomeFile, task_of}
 

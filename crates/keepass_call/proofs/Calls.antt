@@ -12,12 +12,12 @@ use Rattle.cli_messages.specs.Messages.{error_line, reason_text, status_of}
 use Rattle.cli_messages.specs.Phases.{IsCaused, IsLeft, IsWordsStop, Leaves, StreamAnswer, TellsStream, with_left}
 use Rattle.cli_needs.specs.Needs.{files_named}
 use Rattle.cli_writing.specs.Writing.{IsSame, KeepsDraft, KeepsFiles, Store}
-use Rattle.cli_commands.specs.declared.output.Output.{Output}
+use Rattle.session_run.specs.CliCommands.declared.output.Output.{Output}
 use Rattle.keepass_call.specs.Call.{IsCall}
-use Rattle.cli_commands.proofs.Changes.{loses_none}
+use Rattle.session_run.proofs.CliCommands.Changes.{loses_none}
 use Rattle.cli_lines.proofs.Inputs.{left_alone}
 use Rattle.cli_needs.specs.declared.command.Command.{Command}
-use Rattle.call_run.specs.Endings.{Ending, Ends, EndsSo, ending_without}
+use Rattle.session_run.specs.CallRun.Endings.{Ending, Ends, EndsSo, ending_without}
 use Rattle.keepass_call.specs.Held.{IsAuthentic, IsComplete, WritesTask}
 use Rattle.cli_pages.specs.Pages.{page_of}
 use Rattle.cli_reporting.specs.Reporting.{Gains, IsPrinted, IsReported, ReportsLine, memory_line}

@@ -11,7 +11,7 @@ use Rattle.call_input.specs.Opening.{databases_for}
 use Rattle.cli_lines.proofs.Having.{lines_have}
 use Rattle.cli_lines.specs.Lines.{lines_of}
 use Rattle.cli_needs.specs.Needs.{needs_of}
-use Rattle.call_run.specs.Endings.{Ending}
+use Rattle.session_run.specs.CallRun.Endings.{Ending}
 use Rattle.keepass_call.specs.Held.{IsCarried, IsCarriedAlone, IsTask}
 use Rattle.keepass_call.specs.Outcome.{World, answer_of, standalone_or_command}
 use Rattle.cli_parse.specs.Words.{command_of}

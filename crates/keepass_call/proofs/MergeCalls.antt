@@ -17,20 +17,20 @@ use Rattle.merge_core.specs.JoinLaws.{AreParts, end_to_end}
 use Rattle.merge_core.specs.Refusals.{members}
 use Rattle.merge_changes.specs.Equality.{same_doc}
 use Rattle.merge_changes.proofs.SameValues.{doc_decides}
-use Rattle.document_merge.specs.declared.merging.MergeFail.TheVariants.{RootClash, KindClash, MoveCycle, TooDeep, NoMemory}
-use Rattle.document_merge.specs.Merging.{MergeResult, merge_result}
-use Rattle.agreed_laws.specs.Merges.{AreDocs, MergesInto}
-use Rattle.agreed_laws.proofs.Merged.{parts_merged}
-use Rattle.merge_again.proofs.MergeAgain.{unchanged_means}
-use Rattle.doc_write.specs.Written.{write_outcome}
-use Rattle.doc_write.specs.declared.writing.WriteFail.{WriteFail}
-use Rattle.doc_write.specs.declared.writing.WriteFail.TheVariants as write
+use Rattle.cli_self_test.specs.DocumentMerge.declared.merging.MergeFail.TheVariants.{RootClash, KindClash, MoveCycle, TooDeep, NoMemory}
+use Rattle.cli_self_test.specs.DocumentMerge.Merging.{MergeResult, merge_result}
+use Rattle.cli_self_test.specs.AgreedLaws.Merges.{AreDocs, MergesInto}
+use Rattle.cli_self_test.proofs.AgreedLaws.Merged.{parts_merged}
+use Rattle.cli_self_test.proofs.MergeAgain.MergeAgain.{unchanged_means}
+use Rattle.cli_writing.specs.DocWrite.Written.{write_outcome}
+use Rattle.cli_writing.specs.DocWrite.declared.writing.WriteFail.{WriteFail}
+use Rattle.cli_writing.specs.DocWrite.declared.writing.WriteFail.TheVariants as write
 use Rattle.kdbx_frame.specs.declared.settings.Settings.{Settings}
 use Rattle.kdbx_frame.specs.declared.sealings.Sealing.{Sealing}
-use Rattle.kdbx_seal.specs.Answers.{size_refusal}
-use Rattle.kdbx_seal.specs.Made.{made_file}
-use Rattle.kdbx_seal.specs.declared.fail.SealFail.{SealFail}
-use Rattle.kdbx_seal.specs.declared.fail.SealFail.TheVariants as seal
+use Rattle.session_run.specs.KdbxSeal.Answers.{size_refusal}
+use Rattle.session_run.specs.KdbxSeal.Made.{made_file}
+use Rattle.session_run.specs.KdbxSeal.declared.fail.SealFail.{SealFail}
+use Rattle.session_run.specs.KdbxSeal.declared.fail.SealFail.TheVariants as seal
 use Rattle.cli_messages.specs.Messages.{status_of}
 use Rattle.cli_messages.specs.Phases.{IsLeft, StreamAnswer, TellsStream, after_left, with_left}
 use Rattle.cli_messages.specs.declared.answers.Refusal.{Refusal}
@@ -41,15 +41,15 @@ use Rattle.cli_needs.specs.Needs.{files_named}
 use Rattle.cli_parse.specs.Words.{command_of}
 use Rattle.cli_lines.specs.Lines.{Lines}
 use Rattle.cli_files.specs.Files.{Opened, plain_document}
-use Rattle.cli_databases.specs.Held.{HoldsBy}
+use Rattle.call_input.specs.CliDatabases.Held.{HoldsBy}
 use Rattle.cli_writing.specs.Writing.{Store, file_or_refusal, write_answer}
-use Rattle.cli_sealing.specs.Draws.{draws_of}
-use Rattle.cli_sealing.specs.Held.{contents_with}
-use Rattle.cli_sealing.specs.Sealing.{file_by, file_unless, seal_answer, settings_for}
-use Rattle.cli_merging.specs.Merging.{AfterMerge, after_merge, after_merged, changes_between, merged_or_refusal}
-use Rattle.cli_merging.specs.Details.{merge_report}
-use Rattle.cli_commands.specs.Commands.{Change, merged_change}
-use Rattle.call_run.specs.Endings.{Ending, HoldsNew, ReadsBack, ReadsBackSo, Targets, carried_out, change_of_task, ended_so, ended_with, ending_with, new_file, targets_of}
+use Rattle.session_run.specs.CliSealing.Draws.{draws_of}
+use Rattle.session_run.specs.CliSealing.Held.{contents_with}
+use Rattle.session_run.specs.CliSealing.Sealing.{file_by, file_unless, seal_answer, settings_for}
+use Rattle.session_run.specs.CliMerging.Merging.{AfterMerge, after_merge, after_merged, changes_between, merged_or_refusal}
+use Rattle.session_run.specs.CliMerging.Details.{merge_report}
+use Rattle.session_run.specs.CliCommands.Commands.{Change, merged_change}
+use Rattle.session_run.specs.CallRun.Endings.{Ending, HoldsNew, ReadsBack, ReadsBackSo, Targets, carried_out, change_of_task, ended_so, ended_with, ending_with, new_file, targets_of}
 use Rattle.keepass_call.specs.Held.{IsAuthentic, IsTask}
 use Rattle.keepass_call.specs.Merges.{HoldsDatabase, HoldsUnder, IsUntouched, MergesAgreed, MergesNothing, MergesParts, TargetHolds, merges, unmodified_text}
 use Rattle.cli_reporting.specs.Reporting.{Gains}

@@ -8,10 +8,10 @@ use Rattle.cli_messages.specs.Phases.{IsLeft, IsMemoryStop, IsStreamStop, Refuse
 use Rattle.cli_profiles.specs.declared.profiles.PasswordProfile.{PasswordProfile}
 use Rattle.cli_generating.specs.Generated.{generated}
 use Rattle.cli_writing.specs.Writing.{IsSame, Store}
-use Rattle.cli_commands.specs.declared.output.Output.{Output}
-use Rattle.cli_commands.specs.SeenChange.{output_text}
+use Rattle.session_run.specs.CliCommands.declared.output.Output.{Output}
+use Rattle.session_run.specs.CliCommands.SeenChange.{output_text}
 use Rattle.cli_lines.proofs.Inputs.{left_so}
-use Rattle.call_run.specs.Endings.{Ending, Ends, EndsRefused, EndsSo}
+use Rattle.session_run.specs.CallRun.Endings.{Ending, Ends, EndsRefused, EndsSo}
 use Rattle.keepass_call.specs.Outcome.{password_answer, printed_password}
 
 -- What a password that is chosen ends a call with.

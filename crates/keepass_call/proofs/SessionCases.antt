@@ -14,8 +14,8 @@ use Rattle.cli_files.specs.Files.{Opened}
 use Rattle.cli_writing.specs.Writing.{IsSame, KeepsDraft, Store}
 use Rattle.cli_reporting.specs.Reporting.{Gains, IsReported, ReportsLine, file_fault_line, input_fault_line, memory_line}
 use Rattle.cli_sessions.specs.declared.opening.SessionDatabase.{SessionDatabase}
-use Rattle.session_core.specs.ReadsBack.{SessionReadsBack}
-use Rattle.session_core.specs.Sessions.{SessionOutcome, session}
+use Rattle.session_run.specs.SessionCore.ReadsBack.{SessionReadsBack}
+use Rattle.session_run.specs.SessionCore.Sessions.{SessionOutcome, session}
 use Rattle.session_opening.specs.Opening.{first_number, opening_needs}
 use Rattle.session_opening.proofs.Opened.{holds_opened}
 use Rattle.session_run.specs.Seen.{HasCauses, IsAsOutcome, NoneFell, RunsSession, SessionFaults, SessionSeen, StopsAfterLines}
@@ -24,8 +24,8 @@ use Rattle.session_run.proofs.Together.{gains_none, gains_prefix, rose_since}
 use Rattle.keepass_call.specs.Outcome.{Counts, IsAsSaid, NoFaults, Outcome, Seen, World, ended}
 use Rattle.keepass_call.specs.SessionCalls.{IsOpeningLine, IsSession, IsSessionWorld, IsUnopened, LinesHold, StopsWithin, faults_in, opening_over, outcome_of, session_after, session_outcome, session_start, session_view}
 use Rattle.cli_reporting.proofs.Ranges.{status_range}
-use Rattle.cli_commands.proofs.Changes.{loses_none}
-use Rattle.call_run.specs.Endings.{Stores}
+use Rattle.session_run.proofs.CliCommands.Changes.{loses_none}
+use Rattle.session_run.specs.CallRun.Endings.{Stores}
 
 -- The number of the first line, as it was computed.
 pub with_number : (time : ℕ) (database : SessionDatabase) (opened : Opened) (number : ℕ) (left dice : List ℕ) (faults faults' : SessionFaults) (result : ℕ) (before now : SessionSeen)

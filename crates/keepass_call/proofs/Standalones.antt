@@ -13,10 +13,10 @@ use Rattle.cli_standalone.specs.Standalone.{standalone_of}
 use Rattle.cli_parse.specs.Words.{command_of}
 use Rattle.cli_needs.specs.declared.command.Command.{Command}
 use Rattle.cli_writing.specs.Writing.{KeepsFiles, Store}
-use Rattle.cli_commands.specs.declared.output.Output.{Output}
-use Rattle.cli_commands.specs.SeenChange.{output_text}
+use Rattle.session_run.specs.CliCommands.declared.output.Output.{Output}
+use Rattle.session_run.specs.CliCommands.SeenChange.{output_text}
 use Rattle.cli_lines.proofs.Inputs.{left_alone}
-use Rattle.call_run.specs.Endings.{Ending, Ends, EndsRefused, EndsSo, ending_without}
+use Rattle.session_run.specs.CallRun.Endings.{Ending, Ends, EndsRefused, EndsSo, ending_without}
 use Rattle.call_input.specs.Reading.{asked_by, left_behind, left_of}
 use Rattle.keepass_call.specs.Outcome.{World, draws_alone, draws_with, password_answer, printed, standalone_answer, standalone_or_command, test_answer}
 use Rattle.keepass_call.proofs.Answered.{ends_left}

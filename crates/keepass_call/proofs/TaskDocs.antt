@@ -7,18 +7,18 @@ use Rattle.vault_model.specs.declared.forms.DocForm.TheVariants.{Plain}
 use Rattle.doc_forms.specs.Documents.{DocumentAndHash, document}
 use Rattle.doc_forms.specs.ElementTexts.{Setting}
 use Rattle.doc_forms.specs.declared.fails.DocFail.{DocFail}
-use Rattle.doc_read.proofs.ReadDocuments.{read_is_doc}
+use Rattle.cli_files.proofs.DocRead.ReadDocuments.{read_is_doc}
 use Rattle.kdbx_frame.specs.Forms.{form_of}
-use Rattle.kdbx_open.specs.Documents.{attachment, document_or_refusal}
-use Rattle.kdbx_open.specs.Opening.{FileContents}
-use Rattle.kdbx_open.specs.Sealed.{Sealed}
-use Rattle.kdbx_open.specs.declared.fail.OpenFail.{OpenFail}
+use Rattle.session_opening.specs.KdbxOpen.Documents.{attachment, document_or_refusal}
+use Rattle.session_opening.specs.KdbxOpen.Opening.{FileContents}
+use Rattle.session_opening.specs.KdbxOpen.Sealed.{Sealed}
+use Rattle.session_opening.specs.KdbxOpen.declared.fail.OpenFail.{OpenFail}
 use Rattle.cli_needs.specs.declared.command.Access.{Access}
 use Rattle.cli_files.specs.Files.{Databases, Opened, plain_document}
-use Rattle.cli_databases.specs.Databases.{password_from}
-use Rattle.cli_databases.specs.Held.{HoldAll, HoldDatabases, HoldsBy}
+use Rattle.call_input.specs.CliDatabases.Databases.{password_from}
+use Rattle.call_input.specs.CliDatabases.Held.{HoldAll, HoldDatabases, HoldsBy}
 use Rattle.call_input.specs.Opening.{HoldByOrigin}
-use Rattle.agreed_laws.specs.Merges.{AreDocs}
+use Rattle.cli_self_test.specs.AgreedLaws.Merges.{AreDocs}
 use Rattle.cli_needs.specs.Needs as from
 use Rattle.cli_needs.specs.Needs.{Needs, Origin, needs_of, origin_of}
 use Rattle.cli_lines.specs.Lines.{Lines}

@@ -8,8 +8,8 @@ use Rattle.cli_standalone.specs.Standalone.{standalone_of}
 use Rattle.cli_lines.specs.Lines.{lines_of}
 use Rattle.call_input.specs.Attaching.{attached_for}
 use Rattle.call_input.specs.Opening.{HoldCommandDatabases}
-use Rattle.cli_commands.specs.Commands.{Change}
-use Rattle.call_run.specs.Endings.{Ending, ReadsBack, Stores, carried_out, change_of_task, targets_of}
+use Rattle.session_run.specs.CliCommands.Commands.{Change}
+use Rattle.session_run.specs.CallRun.Endings.{Ending, ReadsBack, Stores, carried_out, change_of_task, targets_of}
 use Rattle.cli_reporting.specs.Reporting.{Gains}
 use Rattle.keepass_call.specs.Outcome.{Counts, NoFaults, Seen, World, standalone_answer}
 use Rattle.cli_files.specs.Tasks.{Task, databases_in}

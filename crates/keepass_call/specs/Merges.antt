@@ -7,10 +7,10 @@ use Rattle.vault_model.specs.Join.{join, Agreed}
 use Rattle.vault_model.specs.Tree.{BareDoc, LEVELS, IsSettled, db_in}
 use Rattle.merge_core.specs.JoinLaws.{AreParts, end_to_end}
 use Rattle.merge_core.specs.Refusals.{members}
-use Rattle.agreed_laws.specs.Merges.{IsSettledAs}
+use Rattle.cli_self_test.specs.AgreedLaws.Merges.{IsSettledAs}
 use Rattle.doc_forms.specs.Documents.{DocumentAndHash}
-use Rattle.kdbx_open.specs.Opening.{FileContents}
-use Rattle.kdbx_open.specs.Sealed.{Sealed}
+use Rattle.session_opening.specs.KdbxOpen.Opening.{FileContents}
+use Rattle.session_opening.specs.KdbxOpen.Sealed.{Sealed}
 use Rattle.kdbx_frame.specs.declared.sealings.Sealing.{Sealing}
 use Rattle.cli_needs.specs.declared.command.Command.{Command}
 use Rattle.cli_needs.specs.declared.command.Command.TheVariants.{Ls, Show, History, Search, Add, Edit, Restore, ExportAttachment, ImportAttachment, RemoveAttachment, Move, Remove, MakeGroup, RemoveGroup, Merge, Import, Create, Export, EditFile, Info}

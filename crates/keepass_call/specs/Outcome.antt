@@ -7,7 +7,7 @@ use Rattle.cli_messages.specs.declared.answers.Refusal.{Refusal}
 use Rattle.cli_messages.specs.Messages.{status_of, reason_text, error_line}
 use Rattle.cli_messages.specs.Phases.{IsLeft, StreamAnswer, TellsStream, then_left, with_left}
 use Rattle.cli_writing.specs.Writing.{KeepsDraft, KeepsFiles, NewFile, Store, store}
-use Rattle.cli_commands.specs.Commands.{may_store, may_write}
+use Rattle.session_run.specs.CliCommands.Commands.{may_store, may_write}
 use Rattle.cli_pages.specs.Pages.{page_of}
 use Rattle.cli_reporting.specs.Reporting.{Gains}
 use Rattle.cli_needs.specs.Needs.{file_written}
@@ -21,7 +21,7 @@ use Rattle.cli_generating.specs.Generated.{generated}
 use Rattle.cli_needs.specs.declared.command.Command.{Command}
 use Rattle.cli_files.specs.Tasks.{Task, draws_by}
 use Rattle.call_input.specs.Reading.{HasSomeFile, asked_by, left_of, task_of}
-use Rattle.call_run.specs.Endings.{Ending, IsOfDice, IsOfSomeDice, Stores, carried_out, ending_without}
+use Rattle.session_run.specs.CallRun.Endings.{Ending, IsOfDice, IsOfSomeDice, Stores, carried_out, ending_without}
 
 -- ---- what is defined
 

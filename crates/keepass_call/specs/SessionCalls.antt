@@ -9,8 +9,8 @@ use Rattle.cli_files.specs.Files.{Opened}
 use Rattle.cli_writing.specs.Writing.{IsSame, KeepsDraft}
 use Rattle.cli_reporting.specs.Reporting.{file_fault_line, input_fault_line, memory_line}
 use Rattle.cli_sessions.specs.declared.opening.SessionDatabase.{SessionDatabase}
-use Rattle.session_core.specs.ReadsBack.{SessionReadsBack}
-use Rattle.session_core.specs.Sessions.{SessionOutcome, SessionState, session}
+use Rattle.session_run.specs.SessionCore.ReadsBack.{SessionReadsBack}
+use Rattle.session_run.specs.SessionCore.Sessions.{SessionOutcome, SessionState, session}
 use Rattle.session_opening.specs.Opening.{HoldsSession, first_number, opening_needs, session_opened}
 use Rattle.session_run.specs.Seen.{SessionFaults, SessionSeen, StopsAfterLines, session_faults}
 use Rattle.keepass_call.specs.Outcome.{AreTruthful, Counts, IsAsSaid, NoFaults, Outcome, Seen, World, ended}

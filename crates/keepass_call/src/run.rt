@@ -6,9 +6,9 @@ ghost use Rattle.cli_messages.specs.declared.answers.Refusal.{Refusal};
 ghost use Rattle.cli_needs.specs.Needs.{files_named};
 ghost use Rattle.cli_writing.specs.Writing.{IsSame, KeepsDraft, KeepsFiles, store};
 ghost use Rattle.keepass_call.specs.Call.{IsCall};
-ghost use Rattle.call_run.specs.Endings.{Ends};
+ghost use Rattle.session_run.specs.CallRun.Endings.{Ends};
 ghost use Rattle.keepass_call.specs.Outcome.{AreTruthful, IsOfSomeFile, IsOfTask, World, command_answer, counts, draws_words, may_store_by, seen, standalone_or_command, truth};
-ghost use Rattle.cli_commands.specs.SeenChange.{output_text};
+ghost use Rattle.session_run.specs.CliCommands.SeenChange.{output_text};
 ghost use Rattle.cli_parse.specs.Words.{command_of};
 ghost use Rattle.cli_standalone.specs.Standalone.{standalone_of};
 ghost use Rattle.cli_files.specs.Tasks.{draws_by};
@@ -21,14 +21,14 @@ ghost use Rattle.keepass_call.specs.SessionCalls.{IsSession};
 use crate::session::answer_session;
 use crate::standalone::answer_alone;
 use call_input::read_task;
-use call_run::carry_out;
-use cli_commands::{Output, lend_text};
 use cli_messages::Stop;
 use cli_pages::page_of;
 use cli_reporting::{print, report};
 use cli_sessions::read_opening;
 use cli_standalone::read_standalone;
 use outside_core::{Bytes, Dice, FileStore, Sink, Source};
+use session_run::call_run::carry_out;
+use session_run::cli_commands::{Output, lend_text};
 use std::alloc::Global;
 
 /// The status of a call for which memory ran out.

@@ -6,9 +6,9 @@ ghost use Rattle.keepass_call.specs.SessionCalls.{IsSession};
 use cli_reporting::report;
 use cli_sessions::SessionDatabase;
 use outside_core::{Dice, FileStore, Sink, Source};
-use session_core::{Session, close};
 use session_opening::{first_number, open_session};
 use session_run::run_session;
+use session_run::session_core::{Session, close};
 use std::alloc::Global;
 
 /// Carries out a session: its database is opened, and each line of the input is a command on it.

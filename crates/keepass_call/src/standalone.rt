@@ -3,14 +3,13 @@ ghost use Rattle.std.specs.Prelude.{◌≡◌, ◌≤◌, ◌++◌, ℕ, List, S
 ghost use Rattle.outside_core.specs.Streams.{LosesPrefix};
 ghost use Rattle.cli_messages.specs.Phases.{IsMemoryStop, IsPlainStop, IsStreamStop, Returns, TellsStream};
 ghost use Rattle.cli_writing.specs.Writing.{Store};
-ghost use Rattle.call_run.specs.Endings.{Ends};
-ghost use Rattle.cli_commands.specs.SeenChange.{output_text};
+ghost use Rattle.session_run.specs.CallRun.Endings.{Ends};
+ghost use Rattle.session_run.specs.CliCommands.SeenChange.{output_text};
 ghost use Rattle.cli_profiles.specs.Profiles.{IsProfile};
 ghost use Rattle.cli_self_test.specs.SelfTest as spec;
 ghost use Rattle.cli_standalone.specs.Standalone.{IsStandalone};
 ghost use Rattle.keepass_call.specs.Outcome.{draws_alone, password_answer, standalone_answer};
 
-use cli_commands::Output;
 use cli_generating::choose_password;
 use cli_messages::Stop;
 use cli_profiles::PasswordProfile;
@@ -18,6 +17,7 @@ use cli_self_test::self_test;
 use cli_standalone::Standalone;
 use outside_core::Dice;
 use secret_core::Secret;
+use session_run::cli_commands::Output;
 use std::alloc::Global;
 
 // The text that prints a password.

@@ -5,12 +5,12 @@ ghost use Rattle.cli_parse.specs.Words.{command_of};
 ghost use Rattle.cli_sessions.specs.Openings.{opening_of};
 ghost use Rattle.keepass_call.specs.Outcome.{written_by, written_with};
 
-use cli_commands::may_store;
 use cli_messages::Stop;
 use cli_needs::{Command, file_written};
 use cli_parse::read_words;
 use cli_sessions::{SessionDatabase, read_opening};
 use outside_core::{NoMemory, Text};
+use session_run::cli_commands::may_store;
 use std::alloc::Global;
 
 // The name of the file that a command may write, if it may write one.

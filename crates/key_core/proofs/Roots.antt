@@ -1,10 +1,10 @@
 -- What the root of a key document tells, and whether what stands behind it is whole.
 use Rattle.std.proofs.Common.{ℕ, ◌≡◌, ◌∙◌, sym, ap, true, false, ◌&&◌, Option, Some, None, List, [], ◌∷◌}
 use Rattle.std.specs.Prelude.{codes, option_map, Result, Ok, Err}
-use Rattle.markup_grammar.specs.Answers.{Answer, start, words, stop, finish}
-use Rattle.markup_grammar.specs.Elements.{Content, innermost, outer_contents, open_contents}
-use Rattle.markup_grammar.specs.Escapes.{unescaped}
-use Rattle.markup_grammar.specs.Reading.{answers}
+use Rattle.markup_core.specs.MarkupGrammar.Answers.{Answer, start, words, stop, finish}
+use Rattle.markup_core.specs.MarkupGrammar.Elements.{Content, innermost, outer_contents, open_contents}
+use Rattle.markup_core.specs.MarkupGrammar.Escapes.{unescaped}
+use Rattle.markup_core.specs.MarkupGrammar.Reading.{answers}
 use Rattle.markup_core.specs.Next.{Answers}
 use Rattle.markup_core.specs.declared.piece.MarkupFail.{MarkupFail}
 use Rattle.markup_core.specs.declared.piece.MarkupFail.TheVariants.{Form, Depth}

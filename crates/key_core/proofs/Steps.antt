@@ -1,8 +1,8 @@
 -- How what is left of the open elements changes as their items come.
 use Rattle.std.proofs.Common.{ℕ, ◌≡◌, ◌<◌, ◌≤◌, ◌∙◌, sym, ap, refl, arith, false, ◌&&◌, List, [], ◌∷◌, ◌++◌, length, append_assoc}
-use Rattle.markup_grammar.specs.Answers.{Answer, start, words, stop, finish}
-use Rattle.markup_grammar.specs.Elements.{Element, element, Content, last, also, cut, innermost, outer_contents, open_contents, with_text_before, own_text}
-use Rattle.markup_grammar.specs.Escapes.{unescaped}
+use Rattle.markup_core.specs.MarkupGrammar.Answers.{Answer, start, words, stop, finish}
+use Rattle.markup_core.specs.MarkupGrammar.Elements.{Element, element, Content, last, also, cut, innermost, outer_contents, open_contents, with_text_before, own_text}
+use Rattle.markup_core.specs.MarkupGrammar.Escapes.{unescaped}
 use Rattle.key_core.specs.KeyDocument.{is_whole, is_whole_element, last_says}
 use Rattle.key_core.specs.Reading.{are_whole, IsRead}
 use Rattle.std.specs.Prelude.{Err}

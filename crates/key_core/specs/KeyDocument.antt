@@ -2,10 +2,10 @@
 -- the last counts.
 use Rattle.std.specs.Prelude.{ℕ, Bool, true, false, ◌&&◌, if◌then◌else◌, Option, Some, None, List, ◌∷◌, take, bytes_eq, codes, Result, Ok, Err}
 use Rattle.sha2.specs.Sha256.{sha256}
-use Rattle.markup_grammar.specs.Answers.{Answer, start}
-use Rattle.markup_grammar.specs.Elements.{Element, element, Content, last, also, cut, innermost, outer_contents, open_contents, own_text}
-use Rattle.markup_grammar.specs.Attributes.{attribute_text}
-use Rattle.text_forms.specs.Texts.{trim}
+use Rattle.markup_core.specs.MarkupGrammar.Answers.{Answer, start}
+use Rattle.markup_core.specs.MarkupGrammar.Elements.{Element, element, Content, last, also, cut, innermost, outer_contents, open_contents, own_text}
+use Rattle.markup_core.specs.MarkupGrammar.Attributes.{attribute_text}
+use Rattle.text_core.specs.TextForms.Texts.{trim}
 use Rattle.key_core.specs.KeyTexts.{without_spaces, base64_key, hexadecimal_key, hexadecimal_hash}
 use Rattle.key_core.specs.declared.key_document.Version.{Version}
 use Rattle.key_core.specs.declared.key_document.Version.TheVariants.{First, Second, Other}

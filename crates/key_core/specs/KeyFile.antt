@@ -1,8 +1,8 @@
 -- The key that a key file gives.
 use Rattle.std.specs.Prelude.{ℕ, ◌≡◌, Option, Some, None, List, Result, Ok, Err}
 use Rattle.sha2.specs.Sha256.{sha256}
-use Rattle.markup_grammar.specs.Elements.{Content}
-use Rattle.markup_grammar.specs.Reading.{answers}
+use Rattle.markup_core.specs.MarkupGrammar.Elements.{Content}
+use Rattle.markup_core.specs.MarkupGrammar.Reading.{answers}
 use Rattle.key_core.specs.KeyTexts.{whole_key, hexadecimal_key}
 use Rattle.key_core.specs.KeyDocument.{root_of, document_key, version_of, told_of}
 use Rattle.key_core.specs.declared.key_file.KeyFileFail.{KeyFileFail}

@@ -6,7 +6,7 @@ use Rattle.std.specs.List.{filter}
 use Rattle.base64.specs.Engines.{standard}
 use Rattle.base64.specs.GeneralPurpose.{decoded_of}
 use Rattle.hex.specs.Hex.{decode_sized}
-use Rattle.markup_grammar.specs.Bytes.{is_space}
+use Rattle.markup_core.specs.MarkupGrammar.Bytes.{is_space}
 
 -- a text without any white space
 abbrev pub without_spaces : List ℕ → List ℕ

@@ -1,9 +1,9 @@
 -- What reading the innermost open element up to its end answers, and what it leaves.
 use Rattle.std.specs.Prelude.{ℕ, ◌≡◌, ◌<◌, Bool, true, false, ◌&&◌, if◌then◌else◌, bytes_eq, codes, Option, Some, None, option_map, List, [], length, Result, Ok, Err}
 use Rattle.secret_core.specs.Secret.{SecretBuffer}
-use Rattle.markup_grammar.specs.Answers.{Answer}
-use Rattle.markup_grammar.specs.Elements.{element, Content, last, also, innermost, outer_contents, open_contents, with_text_before, own_text}
-use Rattle.markup_grammar.specs.Escapes.{unescaped}
+use Rattle.markup_core.specs.MarkupGrammar.Answers.{Answer}
+use Rattle.markup_core.specs.MarkupGrammar.Elements.{element, Content, last, also, innermost, outer_contents, open_contents, with_text_before, own_text}
+use Rattle.markup_core.specs.MarkupGrammar.Escapes.{unescaped}
 use Rattle.key_core.specs.KeyDocument.{is_whole, version_by, version_of, version_of_meta, Told, told_of, told_of_key, root_of}
 use Rattle.key_core.specs.declared.key_document.Version.{Version}
 use Rattle.key_core.specs.declared.key_document.Document.{Document}

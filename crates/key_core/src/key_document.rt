@@ -1,9 +1,9 @@
 //! Key files that are markup.
 
 ghost use Rattle.std.specs.Prelude.{◌≡◌, IfOk, option_map, option_copied};
-ghost use Rattle.markup_grammar.specs.Elements.{innermost, open_contents};
-ghost use Rattle.markup_grammar.specs.Escapes.{unescaped};
-ghost use Rattle.markup_grammar.specs.Reading.{answers};
+ghost use Rattle.markup_core.specs.MarkupGrammar.Elements.{innermost, open_contents};
+ghost use Rattle.markup_core.specs.MarkupGrammar.Escapes.{unescaped};
+ghost use Rattle.markup_core.specs.MarkupGrammar.Reading.{answers};
 ghost use Rattle.key_core.specs.KeyDocument as spec;
 ghost use Rattle.key_core.specs.Reading.{Begins, Ends, IsDocument, Reads, says_by, says_of, says_or, told_by, told_here, told_or, version_or};
 

@@ -11,6 +11,7 @@ mod key_texts;
 mod reading;
 mod transformation;
 
+pub use argon_core;
 pub use argon_core::ArgonKind;
 pub use composition::composite;
 pub use files::{FileKeys, file_keys};

@@ -1,7 +1,7 @@
 //! Reading the elements of a text, one item of the innermost open element at a time.
 
 ghost use Rattle.std.specs.Prelude.{◌≡◌, ◌↔◌, true};
-ghost use Rattle.markup_grammar.specs.Elements.{innermost, open_contents, own_text};
+ghost use Rattle.markup_core.specs.MarkupGrammar.Elements.{innermost, open_contents, own_text};
 ghost use Rattle.key_core.specs.KeyDocument.{is_whole};
 ghost use Rattle.key_core.specs.Reading.{Comes, Reads};
 

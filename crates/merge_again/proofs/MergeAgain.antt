@@ -21,10 +21,10 @@ use Rattle.merge_core.proofs.SoundDoc.{AreDistinct, below_node, db_root, distinc
 use Rattle.merge_core.proofs.SoundJoin.{join_holds}
 use Rattle.merge_core.proofs.TreeShape.{laid_document}
 use Rattle.merge_core.proofs.Versions.{never}
-use Rattle.merge_checks.specs.Cycles.{cycle_above}
-use Rattle.document_merge.specs.declared.merging.MergeFail.{MergeFail}
-use Rattle.document_merge.specs.declared.merging.MergeFail.TheVariants.{RootClash, KindClash, MoveCycle, TooDeep}
-use Rattle.document_merge.specs.Merging.{MergeResult, kind_stage, level_stage, merge_result, path_stage, unless_found}
+use Rattle.agreed_laws.specs.MergeChecks.Cycles.{cycle_above}
+use Rattle.agreed_laws.specs.DocumentMerge.declared.merging.MergeFail.{MergeFail}
+use Rattle.agreed_laws.specs.DocumentMerge.declared.merging.MergeFail.TheVariants.{RootClash, KindClash, MoveCycle, TooDeep}
+use Rattle.agreed_laws.specs.DocumentMerge.Merging.{MergeResult, kind_stage, level_stage, merge_result, path_stage, unless_found}
 use Rattle.agreed_laws.specs.Merges.{AreDocs, IsSettledAs}
 use Rattle.agreed_laws.proofs.Again.{first, parts_through, within_join}
 use Rattle.agreed_laws.proofs.Merged.{IsMerged, merged_so, passed, settled_as}

@@ -5,3 +5,5 @@
 mod id_lists;
 pub mod laying;
 mod parents;
+
+pub use merge_nodes;

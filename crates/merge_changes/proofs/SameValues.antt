@@ -6,7 +6,7 @@ use Rattle.std.specs.Ordering.{eq_by_cmp}
 use Rattle.vault_model.specs.Tree.{Tree, Trees, node, none, beside}
 use Rattle.vault_model.proofs.Orders.{IsOrder, bin_order, bool_order, bytes_order, content_order, group_content_order, icon_order, id_order, item_order, lists_order, nat_order, settings_order, timed_order}
 use Rattle.vault_model.proofs.Tests.{and_both, and_true}
-use Rattle.merge_core.proofs.Unite.{tie}
+use Rattle.merge_tables.proofs.MergeCore.Unite.{tie}
 use Rattle.vault_model.specs.Join.{is_id}
 use Rattle.merge_changes.specs.Equality.{same_all, same_doc, same_entry, same_group, same_mark, same_meta, same_meta_view, same_nat, same_state, same_stats, same_tomb, same_tree, same_trees, same_version, same_view}
 

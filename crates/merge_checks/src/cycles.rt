@@ -8,7 +8,7 @@ ghost use Rattle.merge_changes.specs.Changes.{rising_ids};
 ghost use Rattle.merge_checks.specs.Cycles.{cycle_above};
 
 use merge_changes::changes::table_of_ids;
-use merge_parts::nodes::{above, all_ids};
+use merge_join::merge_parts::nodes::{above, all_ids};
 use merge_tables::databases::Database;
 use merge_tables::tables::Table;
 use outside_core::{List, NoMemory};

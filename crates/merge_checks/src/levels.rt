@@ -10,7 +10,7 @@ ghost use Rattle.merge_tables.specs.Databases.{databases};
 ghost use Rattle.merge_join.specs.Marks.{AllSound, AreKept, AreKnown};
 
 use crate::kinds::is_entry;
-use merge_parts::nodes::is_on_trail;
+use merge_join::merge_parts::nodes::is_on_trail;
 use merge_tables::databases::Database;
 use merge_tables::tables::Table;
 use uuid_core::Uuid;

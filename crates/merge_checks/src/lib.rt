@@ -6,3 +6,6 @@ pub mod cycles;
 pub mod kinds;
 pub mod levels;
 pub mod roots;
+
+pub use merge_changes;
+pub use merge_join;

@@ -13,10 +13,10 @@ use Rattle.merge_core.specs.Example.{as_it_was, bank, copies, edited, mail, move
 use Rattle.merge_core.proofs.ExampleAgrees.{example_agreed}
 use Rattle.merge_core.proofs.Facts.{join_places, latest_found}
 use Rattle.merge_core.proofs.SoundDoc.{all_in, place_kid}
-use Rattle.document_merge.specs.Merging.{MergeResult, merge_result}
-use Rattle.document_merge.specs.declared.merging.MergeFail.TheVariants.{RootClash, KindClash, MoveCycle, TooDeep, NoMemory}
-use Rattle.agreed_laws.specs.Merges.{AreDocs, MergesInto}
-use Rattle.agreed_laws.proofs.Merged.{merges_into}
+use Rattle.run_laws.specs.DocumentMerge.Merging.{MergeResult, merge_result}
+use Rattle.run_laws.specs.DocumentMerge.declared.merging.MergeFail.TheVariants.{RootClash, KindClash, MoveCycle, TooDeep, NoMemory}
+use Rattle.run_laws.specs.AgreedLaws.Merges.{AreDocs, MergesInto}
+use Rattle.run_laws.proofs.AgreedLaws.Merged.{merges_into}
 use Rattle.merge_examples.specs.Cases.{ExampleIsMerged, ExampleRuns, example_docs}
 
 pub doc_first : IsDoc as_it_was

@@ -15,7 +15,7 @@ use Rattle.merge_core.proofs.Laid.{db_entries, db_groups, lay_children, lay_grou
 use Rattle.merge_core.proofs.Tables.{entry_get}
 use Rattle.merge_core.proofs.Unite.{from_keys}
 use Rattle.merge_core.proofs.SoundDoc.{db_root, db_shared, db_tomb, place_kid, shape_entry, shape_group, shape_kids}
-use Rattle.agreed_laws.specs.Merges.{IsSettledAs}
+use Rattle.run_laws.specs.AgreedLaws.Merges.{IsSettledAs}
 use Rattle.merge_examples.specs.Cases.{bare}
 
 pub bare_doc : IsDoc bare

@@ -4,8 +4,8 @@ use Rattle.std.specs.Prelude.{◌≡◌, ℕ, zero, suc, List, [], ◌∷◌, Ok
 use Rattle.vault_model.specs.Join.{Agreed, IsWithin}
 use Rattle.vault_model.specs.Tree.{BareDoc, db_in, node, none}
 use Rattle.merge_core.specs.Example.{as_it_was, copies, edited, group, meta, moved, root}
-use Rattle.document_merge.specs.Merging.{merge_result}
-use Rattle.agreed_laws.specs.Merges.{AreDocs, IsSettledAs}
+use Rattle.run_laws.specs.DocumentMerge.Merging.{merge_result}
+use Rattle.run_laws.specs.AgreedLaws.Merges.{AreDocs, IsSettledAs}
 use Rattle.run_laws.specs.TrimmedRuns.{DocEvent, IsRun, joining, overwriting, world_after}
 use Rattle.run_laws.specs.WholeRuns.{IsWholeRun}
 

@@ -4,3 +4,5 @@
 
 pub mod joins;
 pub mod marking;
+
+pub use merge_parts;

@@ -9,12 +9,12 @@ use Rattle.vault_model.specs.Shape.{EntryRecord, GroupRecord, Children, Stay, st
 use Rattle.vault_model.specs.Tree.{Tree, node, Trees, none, beside, BareDoc, id_of, ids_of, entry_rows, entry_rows_all, group_rows, group_rows_all, child_rows, child_rows_all, node_ids, node_ids_all, IsDoc, db_in}
 use Rattle.vault_model.proofs.Ids.{same_id, id_itself}
 use Rattle.vault_model.proofs.Orders.{id_order}
-use Rattle.merge_core.proofs.Tables.{find_in, some_find}
+use Rattle.merge_tables.proofs.MergeCore.Tables.{find_in, some_find}
 use Rattle.vault_model.proofs.Tests.{decide, apart, some_of, none_of, is_false, or_left, or_right, in_front, in_back, in_either, in_map, from_map, from_flat, map_append}
-use Rattle.merge_core.proofs.Versions.{never}
+use Rattle.merge_tables.proofs.MergeCore.Versions.{never}
 use Rattle.merge_reading.specs.declared.reading.Columns.{Columns}
 use Rattle.merge_reading.specs.Columns.{entry_stay, group_stay, tree_stay, with_entry, with_entries, with_place, with_tree, with_trees}
-use Rattle.merge_core.proofs.SoundDoc.{AreDistinct, IsKid, entry_ids, distinct_head, distinct_front, distinct_back, distinct_apart, below_node, entry_node, entries_nodes, group_node, groups_nodes, kinds_apart, distinct, s, db, shape_entry, shape_group, db_place, entry_at, group_at, entry_there, group_there, place_kid, kid_place}
+use Rattle.merge_tables.proofs.MergeCore.SoundDoc.{AreDistinct, IsKid, entry_ids, distinct_head, distinct_front, distinct_back, distinct_apart, below_node, entry_node, entries_nodes, group_node, groups_nodes, kinds_apart, distinct, s, db, shape_entry, shape_group, db_place, entry_at, group_at, entry_there, group_there, place_kid, kid_place}
 
 -- ---- rows put one after another
 

@@ -8,22 +8,22 @@ use Rattle.vault_model.specs.declared.forms.FileVersion.TheVariants.{V31, V40, V
 use Rattle.key_core.specs.declared.kdf.Kdf.{Kdf}
 use Rattle.key_core.specs.declared.kdf.Kdf.TheVariants.{Aes, Argon}
 use Rattle.doc_spelling.specs.Documents.{spelled_document}
-use Rattle.doc_write.specs.Written.{write_outcome}
-use Rattle.doc_write.specs.declared.writing.WriteFail.{WriteFail}
+use Rattle.cli_sealing.specs.DocWrite.Written.{write_outcome}
+use Rattle.cli_sealing.specs.DocWrite.declared.writing.WriteFail.{WriteFail}
 use Rattle.kdbx_frame.specs.Fields.{length_width}
 use Rattle.kdbx_frame.specs.Forms.{form_of}
 use Rattle.kdbx_frame.specs.Header.{signature, sums_len}
 use Rattle.kdbx_frame.specs.Settings.{iv_len}
 use Rattle.kdbx_frame.specs.declared.header.Header.{Header}
 use Rattle.kdbx_frame.specs.declared.settings.Settings.{Settings}
-use Rattle.kdbx_payload.specs.HeaderMacs.{base_of, key_of}
-use Rattle.kdbx_writing.specs.Fields.{spelled_fields_with}
-use Rattle.kdbx_writing.specs.Header.{cipher_id, header_end, header_fields, public_fields, rounds_of, salsa20, settings_with, spelled_header, start_with, stream_id_with, stream_key_31, stream_key_with, version_number}
-use Rattle.kdbx_writing.specs.Kdf.{spelled_kdf, with_salt}
-use Rattle.kdbx_writing.specs.declared.draws.Draws.{Draws}
-use Rattle.kdbx_seal.specs.Answers.{refusal_of, size_refusal}
-use Rattle.kdbx_seal.specs.Made.{attached_files, hash_kept, made_file}
-use Rattle.kdbx_seal.specs.PayloadMade.{content_of, file_of, made_with, plain_content, written_keystream}
+use Rattle.cli_sealing.specs.KdbxPayload.HeaderMacs.{base_of, key_of}
+use Rattle.cli_sealing.specs.KdbxWriting.Fields.{spelled_fields_with}
+use Rattle.cli_sealing.specs.KdbxWriting.Header.{cipher_id, header_end, header_fields, public_fields, rounds_of, salsa20, settings_with, spelled_header, start_with, stream_id_with, stream_key_31, stream_key_with, version_number}
+use Rattle.cli_sealing.specs.KdbxWriting.Kdf.{spelled_kdf, with_salt}
+use Rattle.cli_sealing.specs.KdbxWriting.declared.draws.Draws.{Draws}
+use Rattle.cli_sealing.specs.KdbxSeal.Answers.{refusal_of, size_refusal}
+use Rattle.cli_sealing.specs.KdbxSeal.Made.{attached_files, hash_kept, made_file}
+use Rattle.cli_sealing.specs.KdbxSeal.PayloadMade.{content_of, file_of, made_with, plain_content, written_keystream}
 use Rattle.cli_messages.specs.Phases.{with_left}
 use Rattle.cli_sealing.specs.Draws.{after_draws, draws_of}
 use Rattle.cli_sealing.specs.Sealing.{file_by, file_unless, sealed_file, settings_for}

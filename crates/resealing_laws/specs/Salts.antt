@@ -2,7 +2,7 @@
 use Rattle.std.specs.Prelude.{◌≡◌, ℕ, List, []}
 use Rattle.vault_model.specs.Tree.{BareDoc}
 use Rattle.kdbx_frame.specs.declared.settings.Settings.{Settings}
-use Rattle.kdbx_writing.specs.Kdf.{with_salt}
+use Rattle.cli_sealing.specs.KdbxWriting.Kdf.{with_salt}
 use Rattle.cli_sealing.specs.Sealing.{sealed_file}
 
 -- Settings without the seed or salt of their key derivation.

@@ -8,7 +8,7 @@ use Rattle.vault_model.proofs.Tests.{from_map, in_either}
 use Rattle.merge_core.proofs.PlanLaws.{alike_join, join_one}
 use Rattle.merge_core.proofs.Regroup.{join_of_joins, joins_agreed, some_end}
 use Rattle.merge_core.proofs.SoundDoc.{document_sound}
-use Rattle.document_merge.specs.Merging.{merge_result}
+use Rattle.agreed_laws.specs.DocumentMerge.Merging.{merge_result}
 use Rattle.agreed_laws.specs.Merges.{AreDocs}
 use Rattle.agreed_laws.specs.Runs.{docs_of}
 use Rattle.agreed_laws.proofs.Merged.{merged_so, merges_into, settled_as}

@@ -7,7 +7,7 @@ use Rattle.vault_model.specs.Tree.{BareDoc, LEVELS, IsDoc, db_in}
 use Rattle.merge_core.proofs.PlanLaws.{alike_join}
 use Rattle.merge_core.proofs.Regroup.{join_of_joins, joins_agreed, some_end}
 use Rattle.merge_core.proofs.SoundDoc.{document_sound}
-use Rattle.document_merge.specs.Merging.{merge_result}
+use Rattle.agreed_laws.specs.DocumentMerge.Merging.{merge_result}
 use Rattle.agreed_laws.specs.Runs.{docs_of}
 use Rattle.agreed_laws.proofs.Merged.{merged_so, settled_as}
 use Rattle.agreed_laws.proofs.Parts.{members_are}

@@ -5,7 +5,7 @@ use Rattle.vault_model.specs.Db.{Db}
 use Rattle.vault_model.specs.Join.{join, IsWithin, Agreed}
 use Rattle.vault_model.specs.Plans.{World, begin, change, learned_by, put}
 use Rattle.vault_model.specs.Tree.{BareDoc, LEVELS, IsDoc, db_in}
-use Rattle.document_merge.specs.Merging.{merge_result}
+use Rattle.agreed_laws.specs.DocumentMerge.Merging.{merge_result}
 use Rattle.agreed_laws.specs.Runs.{docs_of}
 use Rattle.history_laws.specs.Current.{current_view}
 use Rattle.history_laws.specs.Histories.{IsTrimmedStep}

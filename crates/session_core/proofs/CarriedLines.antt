@@ -13,12 +13,12 @@ use Rattle.cli_needs.specs.declared.command.Command.TheVariants.{Ls, Show, Histo
 use Rattle.cli_needs.specs.Needs.{generated_by}
 use Rattle.cli_lines.specs.Lines.{LastLines}
 use Rattle.cli_sessions.specs.SessionLines.{in_session}
-use Rattle.cli_changes.specs.Entries.{AfterCommand}
-use Rattle.cli_files.specs.Files.{Opened}
-use Rattle.cli_files.specs.SeenOpened.{opened_seen}
-use Rattle.cli_files.specs.Tasks.{Task}
+use Rattle.call_run.specs.CliChanges.Entries.{AfterCommand}
+use Rattle.call_run.specs.CliFiles.Files.{Opened}
+use Rattle.call_run.specs.CliFiles.SeenOpened.{opened_seen}
+use Rattle.call_run.specs.CliFiles.Tasks.{Task}
 use Rattle.cli_writing.specs.Writing.{IsSame, Store}
-use Rattle.cli_commands.specs.Commands.{Change, Inputs, change_by, change_with, drawn_id, makes_node, new_document, only_reads, password_of, with_password}
+use Rattle.call_run.specs.CliCommands.Commands.{Change, Inputs, change_by, change_with, drawn_id, makes_node, new_document, only_reads, password_of, with_password}
 use Rattle.call_run.specs.Endings.{Ending, Ends, EndsSo, LeavesDatabase, carried_out, change_of_task, ended_with, inputs_of, targets_of}
 use Rattle.session_core.specs.Reading.{LineRead, asks}
 use Rattle.session_core.specs.SeenReading.{Reads, request_seen}

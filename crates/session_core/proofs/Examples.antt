@@ -2,7 +2,7 @@
 use Rattle.std.proofs.Common.{◌≡◌, ℕ, true, false, List, [], ◌∷◌, codes, None, refl}
 use Rattle.std.specs.Fmt.{digits}
 use Rattle.std.specs.Str.{chars, is_utf8}
-use Rattle.cli_files.specs.Files.{Opened}
+use Rattle.call_run.specs.CliFiles.Files.{Opened}
 use Rattle.cli_sessions.specs.declared.opening.SessionDatabase.{SessionDatabase}
 use Rattle.session_core.specs.Sessions.{SessionState, ended, session_from}
 

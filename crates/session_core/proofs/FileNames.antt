@@ -4,12 +4,12 @@ use Rattle.std.specs.Prelude.{IfOk, IfSome, if◌then◌else◌, nat_le}
 use Rattle.stream_core.specs.InnerStream.{NoKeystream}
 use Rattle.vault_model.specs.Tree.{BareDoc}
 use Rattle.vault_model.specs.declared.forms.DocForm.TheVariants.{Plain}
-use Rattle.doc_write.specs.Written.{write_outcome}
-use Rattle.doc_write.specs.declared.writing.WriteFail.{WriteFail}
+use Rattle.cli_writing.specs.DocWrite.Written.{write_outcome}
+use Rattle.cli_writing.specs.DocWrite.declared.writing.WriteFail.{WriteFail}
 use Rattle.kdbx_frame.specs.declared.sealings.Sealing.{Sealing}
-use Rattle.kdbx_seal.specs.Answers.{size_refusal}
-use Rattle.kdbx_seal.specs.Made.{made_file}
-use Rattle.kdbx_seal.specs.declared.fail.SealFail.{SealFail}
+use Rattle.call_run.specs.KdbxSeal.Answers.{size_refusal}
+use Rattle.call_run.specs.KdbxSeal.Made.{made_file}
+use Rattle.call_run.specs.KdbxSeal.declared.fail.SealFail.{SealFail}
 use Rattle.cli_messages.specs.declared.answers.Refusal.{Refusal}
 use Rattle.cli_messages.specs.Messages.{status_of}
 use Rattle.cli_messages.specs.Phases.{after_left, with_left}
@@ -17,13 +17,13 @@ use Rattle.cli_needs.specs.declared.command.Command.{Command}
 use Rattle.cli_needs.specs.declared.command.Command.TheVariants.{ExportAttachment}
 use Rattle.cli_needs.specs.Needs.{exported_to, needs_of, target_of}
 use Rattle.cli_lines.specs.Lines.{LastLines, last_lines, next_line}
-use Rattle.cli_files.specs.Tasks.{Task}
+use Rattle.call_run.specs.CliFiles.Tasks.{Task}
 use Rattle.cli_writing.specs.Writing.{NewFile, file_or_refusal}
-use Rattle.cli_sealing.specs.Draws.{draws_of}
-use Rattle.cli_sealing.specs.Sealing.{file_by, file_unless, settings_for}
+use Rattle.call_run.specs.CliSealing.Draws.{draws_of}
+use Rattle.call_run.specs.CliSealing.Sealing.{file_by, file_unless, settings_for}
 use Rattle.cli_sessions.specs.SessionLines.{in_session, line_command}
 use Rattle.cli_sessions.proofs.OfSession.{of_session}
-use Rattle.cli_commands.specs.Commands.{Change}
+use Rattle.call_run.specs.CliCommands.Commands.{Change}
 use Rattle.line_words.specs.Words.{line_words}
 use Rattle.call_run.specs.Endings.{Ending, Targets, attachment_file, change_of_task, ended_so, ended_with, ending_with, new_file, targets_of}
 use Rattle.session_core.specs.Reading as request

@@ -11,11 +11,11 @@ use Rattle.cli_messages.specs.declared.answers.Refusal.{Refusal}
 use Rattle.cli_messages.specs.Phases.{StreamAnswer, after_left, with_left}
 use Rattle.cli_needs.specs.declared.command.Command.{Command}
 use Rattle.cli_lines.specs.Lines.{LastLines}
-use Rattle.cli_files.specs.Tasks.{Task}
+use Rattle.call_run.specs.CliFiles.Tasks.{Task}
 use Rattle.cli_sessions.specs.SessionLines.{in_session}
 use Rattle.cli_writing.specs.Held.{IsWritten}
 use Rattle.cli_writing.specs.Writing.{HasFile, NewFile, Store}
-use Rattle.cli_commands.specs.Commands.{Change}
+use Rattle.call_run.specs.CliCommands.Commands.{Change}
 use Rattle.call_run.specs.Endings.{Ending, EndsSo, HoldsNew, IsOfDice, ReadsBack, ReadsBackSo, Stores, Targets, attachment_file, carried_out, change_of_task, ended_so, ended_with, ending_with, new_file, opened_after, targets_of}
 use Rattle.session_core.specs.Reading.{LineRead, asks}
 use Rattle.session_core.specs.SeenReading.{request_seen}

@@ -6,9 +6,9 @@ use Rattle.cli_messages.specs.declared.answers.Refusal.{Refusal}
 use Rattle.cli_messages.specs.declared.answers.Stop.{Stop}
 use Rattle.cli_messages.specs.declared.answers.Stop.TheVariants.{Refused, FileFault, InputFault, NoMemory}
 use Rattle.cli_messages.specs.Messages.{status_of}
-use Rattle.cli_files.specs.SeenOpened.{opened_seen}
+use Rattle.call_run.specs.CliFiles.SeenOpened.{opened_seen}
 use Rattle.cli_writing.specs.Writing.{IsSame, NewFile, Store}
-use Rattle.cli_commands.specs.SeenChange.{output_text}
+use Rattle.call_run.specs.CliCommands.SeenChange.{output_text}
 use Rattle.call_run.specs.Endings.{Stores}
 use Rattle.session_core.specs.Sessions.{LineOutcome, SessionState, continues, ended, ends, refused_line}
 use Rattle.session_core.specs.declared.running.LineEnd.{LineEnd}

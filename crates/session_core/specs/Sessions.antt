@@ -6,10 +6,10 @@ use Rattle.cli_messages.specs.Messages.{error_line, reason_text, refusal_of, sta
 use Rattle.cli_messages.specs.Phases.{StreamAnswer}
 use Rattle.cli_needs.specs.declared.command.Command.{Command}
 use Rattle.cli_lines.specs.Lines.{LastLines, lines_with}
-use Rattle.cli_files.specs.Files.{Opened}
-use Rattle.cli_files.specs.Tasks.{Task}
+use Rattle.call_run.specs.CliFiles.Files.{Opened}
+use Rattle.call_run.specs.CliFiles.Tasks.{Task}
 use Rattle.cli_writing.specs.Writing.{NewFile}
-use Rattle.cli_commands.specs.Commands.{Change}
+use Rattle.call_run.specs.CliCommands.Commands.{Change}
 use Rattle.session_core.specs.Reading.{LineRead, LineRequest, line_read}
 use Rattle.cli_sessions.specs.declared.opening.SessionDatabase.{SessionDatabase}
 use Rattle.session_core.specs.Reading as request

@@ -5,5 +5,7 @@
 mod reading;
 mod running;
 
+pub use call_run;
+pub use call_run::cli_commands;
 pub use reading::{LineRequest, read_request};
 pub use running::{LineEnd, Session, close, run_line};

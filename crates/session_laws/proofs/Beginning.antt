@@ -5,8 +5,8 @@ use Rattle.cli_messages.specs.Phases.{StreamAnswer, after_left, with_left}
 use Rattle.cli_lines.specs.Lines.{Lines, lines_of}
 use Rattle.cli_files.specs.Files.{Databases, Opened}
 use Rattle.cli_files.proofs.HeldKeys.{in_turn}
-use Rattle.cli_databases.specs.Databases.{databases_of}
-use Rattle.cli_databases.proofs.HeldFiles.{database_held}
+use Rattle.call_input.specs.CliDatabases.Databases.{databases_of}
+use Rattle.call_input.proofs.CliDatabases.HeldFiles.{database_held}
 use Rattle.session_opening.specs.Opening.{opened_by, opening_needs, session_opened}
 use Rattle.session_laws.specs.SessionLaws.{SessionsBeginInFiles}
 use Rattle.session_laws.proofs.Opening.{in_files, target_opened}

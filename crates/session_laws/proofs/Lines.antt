@@ -10,9 +10,9 @@ use Rattle.doc_write.specs.Written.{write_outcome}
 use Rattle.doc_write.specs.declared.writing.WriteFail.{WriteFail}
 use Rattle.kdbx_frame.specs.Fields.{file_limit}
 use Rattle.kdbx_frame.specs.declared.sealings.Sealing.{Sealing}
-use Rattle.kdbx_seal.specs.Answers.{size_refusal}
-use Rattle.kdbx_seal.specs.Made.{made_file}
-use Rattle.kdbx_seal.specs.declared.fail.SealFail.{SealFail}
+use Rattle.file_limits.specs.KdbxSeal.Answers.{size_refusal}
+use Rattle.file_limits.specs.KdbxSeal.Made.{made_file}
+use Rattle.file_limits.specs.KdbxSeal.declared.fail.SealFail.{SealFail}
 use Rattle.cli_messages.specs.declared.answers.Refusal.{Refusal}
 use Rattle.cli_messages.specs.Messages.{status_of}
 use Rattle.cli_messages.specs.Phases.{after_left, then_left, with_left}
@@ -22,11 +22,11 @@ use Rattle.cli_lines.specs.Lines.{LastLines, lines_with}
 use Rattle.cli_files.specs.Files.{Opened}
 use Rattle.cli_files.specs.Tasks.{Task}
 use Rattle.cli_writing.specs.Writing.{NewFile, file_or_refusal}
-use Rattle.cli_sealing.specs.Draws.{draws_of}
-use Rattle.cli_sealing.specs.Sealing.{file_by, file_unless, settings_for}
-use Rattle.cli_commands.specs.Commands.{Change}
+use Rattle.file_limits.specs.CliSealing.Draws.{draws_of}
+use Rattle.file_limits.specs.CliSealing.Sealing.{file_by, file_unless, settings_for}
+use Rattle.session_core.specs.CliCommands.Commands.{Change}
 use Rattle.file_limits.proofs.Within.{plain_files_are_within, sealed_files_are_within}
-use Rattle.call_run.specs.Endings.{Ending, HoldsNew, attachment_file, carried_out, change_of_task, ended_so, ended_with, ending_with, new_file, opened_after, targets_of}
+use Rattle.session_core.specs.CallRun.Endings.{Ending, HoldsNew, attachment_file, carried_out, change_of_task, ended_so, ended_with, ending_with, new_file, opened_after, targets_of}
 use Rattle.session_core.specs.Reading as request
 use Rattle.session_core.specs.Reading.{LineRequest, asks, line_read, nothing}
 use Rattle.session_core.specs.Sessions.{LineOutcome, SessionState, continues, ended, ends, line_by_change, line_by_file, line_by_request, line_outcome, line_task, refusal_line, refused_line, state_after, task_line}

@@ -14,9 +14,9 @@ use Rattle.outside_core.specs.Results.{◌>>=◌}
 use Rattle.cli_files.specs.Files.{Databases, Opened}
 use Rattle.cli_files.specs.Tasks.{task_with}
 use Rattle.cli_files.proofs.HeldKeys.{in_turn}
-use Rattle.cli_databases.specs.Databases.{database_of, databases_of, sources_of}
-use Rattle.cli_databases.specs.Held.{HoldAll, HoldsBy}
-use Rattle.cli_databases.proofs.HeldFiles.{database_held, databases_given}
+use Rattle.call_input.specs.CliDatabases.Databases.{database_of, databases_of, sources_of}
+use Rattle.call_input.specs.CliDatabases.Held.{HoldAll, HoldsBy}
+use Rattle.call_input.proofs.CliDatabases.HeldFiles.{database_held, databases_given}
 use Rattle.call_input.specs.Attaching.{attached_by}
 use Rattle.call_input.specs.Opening.{databases_by, databases_for, one_database}
 use Rattle.call_input.specs.Reading.{opened_task}

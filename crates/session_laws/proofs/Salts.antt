@@ -7,22 +7,22 @@ use Rattle.vault_model.specs.Db.{NodeId}
 use Rattle.vault_model.specs.Tree.{BareDoc}
 use Rattle.kdbx_frame.specs.declared.sealings.Sealing.{Sealing}
 use Rattle.kdbx_frame.specs.declared.settings.Settings.{Settings}
-use Rattle.kdbx_writing.specs.Kdf.{with_salt}
+use Rattle.file_limits.specs.KdbxWriting.Kdf.{with_salt}
 use Rattle.cli_messages.specs.Phases.{StreamAnswer, then_left, with_left}
 use Rattle.cli_needs.specs.declared.command.Command.{Command}
 use Rattle.cli_needs.specs.declared.command.Command.TheVariants.{Ls, Show, History, Search, Add, Edit, Restore, ExportAttachment, ImportAttachment, RemoveAttachment, Move, Remove, MakeGroup, RemoveGroup, Merge, Import, Create, Export, EditFile, Info}
 use Rattle.cli_needs.specs.Needs.{generated_by}
 use Rattle.cli_lines.specs.Lines.{LastLines, lines_with}
-use Rattle.cli_printing.specs.Info.{cipher_name, content_lines, file_lines, kdf_text, line, name_lines, settings_lines, version_name}
+use Rattle.session_core.specs.CliPrinting.Info.{cipher_name, content_lines, file_lines, kdf_text, line, name_lines, settings_lines, version_name}
 use Rattle.cli_sessions.specs.SessionLines.{in_session}
 use Rattle.cli_files.specs.Files.{Opened}
 use Rattle.cli_files.specs.Tasks.{Task, task_with}
 use Rattle.cli_writing.specs.Writing.{NewFile}
-use Rattle.cli_commands.specs.Commands.{Inputs, change_with, drawn_id, makes_node, password_of, printed_text, with_password}
+use Rattle.session_core.specs.CliCommands.Commands.{Inputs, change_with, drawn_id, makes_node, password_of, printed_text, with_password}
 use Rattle.resealing_laws.specs.Salts.{unsalted}
 use Rattle.resealing_laws.proofs.Salts.{same_sealed}
 use Rattle.call_input.specs.Opening.{one_database}
-use Rattle.call_run.specs.Endings.{Targets, carried_out, change_of_task, ended_so, ending_with, inputs_of, new_file, settings_in, targets_of}
+use Rattle.session_core.specs.CallRun.Endings.{Targets, carried_out, change_of_task, ended_so, ending_with, inputs_of, new_file, settings_in, targets_of}
 use Rattle.session_core.specs.Sessions.{line_task}
 use Rattle.session_laws.specs.SessionLaws.{AreAlike, unsalted_sealing, without_salt}
 

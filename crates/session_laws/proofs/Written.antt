@@ -10,17 +10,17 @@ use Rattle.doc_forms.specs.declared.fails.DocFail.{DocFail}
 use Rattle.kdbx_frame.specs.Fields.{file_limit}
 use Rattle.kdbx_frame.specs.declared.sealings.Sealing.{Sealing}
 use Rattle.kdbx_frame.specs.declared.settings.Settings.{Settings}
-use Rattle.kdbx_open.specs.Opening.{FileContents}
-use Rattle.kdbx_open.specs.Sealed.{Sealed}
+use Rattle.file_limits.specs.KdbxOpen.Opening.{FileContents}
+use Rattle.file_limits.specs.KdbxOpen.Sealed.{Sealed}
 use Rattle.resealing_laws.proofs.Salts.{salted_again}
 use Rattle.cli_files.specs.Files.{Opened, plain_document}
 use Rattle.cli_files.specs.Held.{GivesKey, IsThere}
-use Rattle.cli_databases.specs.Databases.{opened_plain, opened_under}
-use Rattle.cli_databases.specs.Held.{HoldsBy}
+use Rattle.call_input.specs.CliDatabases.Databases.{opened_plain, opened_under}
+use Rattle.call_input.specs.CliDatabases.Held.{HoldsBy}
 use Rattle.cli_writing.specs.Held.{HoldsPlain}
-use Rattle.cli_sealing.specs.Held.{contents_with}
-use Rattle.cli_sealing.specs.Sealing.{settings_for}
-use Rattle.call_run.specs.Endings.{HoldsNew, opened_after, resealed}
+use Rattle.file_limits.specs.CliSealing.Held.{contents_with}
+use Rattle.file_limits.specs.CliSealing.Sealing.{settings_for}
+use Rattle.session_core.specs.CallRun.Endings.{HoldsNew, opened_after, resealed}
 use Rattle.session_laws.specs.SessionLaws.{AreAlike, unsalted_sealing}
 use Rattle.session_laws.proofs.Files.{put_elsewhere, put_here}
 

@@ -10,7 +10,7 @@ use Rattle.cli_needs.specs.declared.command.Command.{Command}
 use Rattle.cli_lines.specs.Lines.{Lines, lines_with}
 use Rattle.cli_writing.specs.Writing.{NewFile}
 use Rattle.call_input.specs.Reading.{opened_task}
-use Rattle.call_run.specs.Endings.{Ending, carried_out}
+use Rattle.session_core.specs.CallRun.Endings.{Ending, carried_out}
 use Rattle.session_core.specs.Reading as request
 use Rattle.session_core.specs.Reading.{LineRead, LineRequest, line_read}
 use Rattle.session_core.specs.Sessions.{refusal_line, session_line_limit}

@@ -9,10 +9,10 @@ use Rattle.cli_messages.specs.Phases.{IsLeft, RefusesAskedStream, Returns, Retur
 use Rattle.cli_needs.specs.Needs.{Needs}
 use Rattle.cli_lines.specs.Lines.{Lines, lines_of}
 use Rattle.cli_lines.proofs.Having.{lines_have}
-use Rattle.cli_files.specs.Files.{Opened}
-use Rattle.cli_files.specs.SeenOpened.{opened_seen}
-use Rattle.cli_files.specs.declared.documents.Opened as memory
-use Rattle.cli_files.proofs.HeldKeys.{in_turn}
+use Rattle.cli_databases.specs.CliFiles.Files.{Opened}
+use Rattle.cli_databases.specs.CliFiles.SeenOpened.{opened_seen}
+use Rattle.cli_databases.specs.CliFiles.declared.documents.Opened as memory
+use Rattle.cli_databases.proofs.CliFiles.HeldKeys.{in_turn}
 use Rattle.cli_databases.specs.Databases.{databases_of}
 use Rattle.cli_databases.proofs.HeldFiles.{databases_held}
 use Rattle.cli_sessions.specs.declared.opening.SessionDatabase.{SessionDatabase}

@@ -1,1 +1,2 @@
 pub mod Opening
+pub use Rattle.cli_databases.specs.KdbxOpen

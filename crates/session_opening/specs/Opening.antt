@@ -6,7 +6,7 @@ use Rattle.cli_messages.specs.declared.answers.Refusal.{Refusal}
 use Rattle.cli_messages.specs.Phases.{StreamAnswer, then_left, with_left}
 use Rattle.cli_needs.specs.Needs.{Needs, without_sources}
 use Rattle.cli_lines.specs.Lines.{Lines, lines_of, number_from}
-use Rattle.cli_files.specs.Files.{Databases, Opened}
+use Rattle.cli_databases.specs.CliFiles.Files.{Databases, Opened}
 use Rattle.cli_databases.specs.Databases.{databases_of}
 use Rattle.cli_databases.specs.Held.{HoldDatabases}
 use Rattle.cli_sessions.specs.declared.opening.SessionDatabase.{SessionDatabase}

@@ -2,19 +2,19 @@
 ghost use Rattle.std.specs.Prelude.{◌≡◌, ◌≤◌, ℕ, List, IfErr, IfOk, IfSome, OnOk, Some, is_some, not, true};
 ghost use Rattle.outside_core.specs.Files.{FileMap};
 ghost use Rattle.outside_core.specs.Reports.{StaysTruthful, reported};
-ghost use Rattle.kdbx_frame.specs.Settings.{IsInOrder};
+ghost use Rattle.cli_lines.specs.KdbxFrame.Settings.{IsInOrder};
 ghost use Rattle.cli_messages.specs.Phases.{IsEarlyStop, IsFileStop, Returns, ReturnsStream};
 ghost use Rattle.cli_needs.specs.Needs.{HasKey, files_of};
 ghost use Rattle.cli_needs.specs.SeenNeeds.{needs_seen};
 ghost use Rattle.cli_lines.specs.Lines.{HasLines};
 ghost use Rattle.cli_lines.specs.SeenLines.{lines_seen};
-ghost use Rattle.cli_files.specs.LeavesFiles.{LeavesFiles};
-ghost use Rattle.cli_files.specs.SeenOpened.{opened_seen};
+ghost use Rattle.cli_databases.specs.CliFiles.LeavesFiles.{LeavesFiles};
+ghost use Rattle.cli_databases.specs.CliFiles.SeenOpened.{opened_seen};
 ghost use Rattle.session_opening.specs.Opening as spec;
 ghost use Rattle.session_opening.specs.Opening.{opened_by, session_opened};
 
+use cli_databases::cli_files::Opened;
 use cli_databases::{Databases, open};
-use cli_files::Opened;
 use cli_lines::{Lines, read_lines};
 use cli_messages::Stop;
 use cli_needs::{Needs, asks_password};

@@ -13,8 +13,8 @@ use Rattle.cli_messages.specs.declared.answers.Stop.TheVariants.{Refused, FileFa
 use Rattle.cli_messages.specs.declared.answers.Reason.TheVariants.{LineLimit}
 use Rattle.cli_messages.specs.Messages.{Refuses, refusal_of, status_of}
 use Rattle.cli_messages.specs.Phases.{IsStreamStop, RefusesStream}
-use Rattle.cli_commands.specs.declared.output.Output.{Output}
-use Rattle.cli_commands.specs.SeenChange.{output_text}
+use Rattle.session_core.specs.CliCommands.declared.output.Output.{Output}
+use Rattle.session_core.specs.CliCommands.SeenChange.{output_text}
 use Rattle.cli_lines.specs.Lines.{end_reached}
 use Rattle.cli_reporting.specs.Reporting.{IsReported, ReportsLine, file_fault_line, input_fault_line, memory_line, output_line}
 use Rattle.cli_reporting.proofs.Ranges.{status_range}

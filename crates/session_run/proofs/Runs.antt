@@ -4,10 +4,10 @@ use Rattle.std.specs.Prelude.{◌⊎◌, IfSome, option_map}
 use Rattle.std.specs.FinMap.{insert}
 use Rattle.outside_core.specs.Files.{FileMap}
 use Rattle.outside_core.specs.Streams.{GainsPrefix}
-use Rattle.cli_files.specs.SeenOpened.{opened_seen}
+use Rattle.session_core.specs.CliFiles.SeenOpened.{opened_seen}
 use Rattle.cli_reporting.specs.Reporting.{Gains, input_fault_line}
 use Rattle.cli_writing.specs.Writing.{IsSame, KeepsFiles, NewFile, Store}
-use Rattle.call_run.specs.Endings.{Stores}
+use Rattle.session_core.specs.CallRun.Endings.{Stores}
 use Rattle.cli_sessions.specs.declared.opening.SessionDatabase.{SessionDatabase}
 use Rattle.session_core.specs.ReadsBack.{IfContinues, LineReadsBack, LinesReadBack}
 use Rattle.session_core.specs.Running.{IsAt, state_seen}

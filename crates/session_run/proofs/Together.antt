@@ -12,7 +12,7 @@ use Rattle.outside_core.specs.Streams.{GainsPrefix}
 use Rattle.vault_model.proofs.Orders.{bytes_order}
 use Rattle.cli_reporting.specs.Reporting.{Gains}
 use Rattle.cli_writing.specs.Writing.{KeepsDraft, KeepsFiles, NewFile, Store}
-use Rattle.call_run.specs.Endings.{Stores}
+use Rattle.session_core.specs.CallRun.Endings.{Stores}
 use Rattle.session_core.specs.Sessions.{last_file}
 use Rattle.session_run.specs.Seen.{HasFiles, files_with}
 

@@ -7,10 +7,10 @@ use Rattle.cli_messages.specs.declared.answers.Stop.{Stop}
 use Rattle.cli_messages.specs.declared.answers.Stop.TheVariants.{Refused}
 use Rattle.cli_messages.specs.declared.answers.Reason.TheVariants.{LineLimit}
 use Rattle.cli_messages.specs.Messages.{refusal_of, status_of}
-use Rattle.cli_files.specs.SeenOpened.{opened_seen}
+use Rattle.session_core.specs.CliFiles.SeenOpened.{opened_seen}
 use Rattle.cli_reporting.specs.Reporting.{Gains, IsReported, ReportsUnwritten, input_fault_line, memory_line, output_line}
 use Rattle.cli_writing.specs.Writing.{IsSame, KeepsFiles, NewFile}
-use Rattle.call_run.specs.Endings.{Stores}
+use Rattle.session_core.specs.CallRun.Endings.{Stores}
 use Rattle.session_core.specs.Running.{IsAt}
 use Rattle.session_core.specs.Sessions.{LineOutcome, SessionState, continues, ended, ends, refusal_line}
 use Rattle.session_core.specs.declared.running.Session.{Session}

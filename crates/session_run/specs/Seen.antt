@@ -6,7 +6,7 @@ use Rattle.outside_core.specs.Files.{FileMap}
 use Rattle.outside_core.specs.Streams.{GainsPrefix}
 use Rattle.cli_writing.specs.Writing.{KeepsDraft, NewFile, Store, store}
 use Rattle.cli_reporting.specs.Reporting.{Gains, file_fault_line, input_fault_line, memory_line, output_line}
-use Rattle.call_run.specs.Endings.{Stores}
+use Rattle.session_core.specs.CallRun.Endings.{Stores}
 use Rattle.cli_sessions.specs.declared.opening.SessionDatabase.{SessionDatabase}
 use Rattle.session_core.specs.ReadsBack.{SessionReadsBack}
 use Rattle.session_core.specs.Sessions.{LineOutcome, SessionOutcome, SessionState, continues, ends, session}

@@ -4,3 +4,5 @@
 mod lines;
 
 pub use lines::run_session;
+pub use session_core;
+pub use session_core::{call_run, cli_commands};

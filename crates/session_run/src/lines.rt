@@ -5,20 +5,20 @@ ghost use Rattle.outside_core.specs.Files.{FileMap};
 ghost use Rattle.outside_core.specs.Reports.{StaysTruthful};
 ghost use Rattle.outside_core.specs.Streams.{LosesPrefix};
 ghost use Rattle.kdbx_frame.specs.Settings.{IsInOrder};
-ghost use Rattle.cli_files.specs.SeenOpened.{opened_seen};
+ghost use Rattle.session_core.specs.CliFiles.SeenOpened.{opened_seen};
 ghost use Rattle.cli_writing.specs.Writing.{KeepsDraft, store};
-ghost use Rattle.cli_commands.specs.SeenChange.{output_text};
+ghost use Rattle.session_core.specs.CliCommands.SeenChange.{output_text};
 ghost use Rattle.session_core.specs.ReadsBack.{LineReadsBack};
 ghost use Rattle.session_core.specs.Running.{state_seen};
 ghost use Rattle.session_core.specs.Sessions.{line_outcome};
 ghost use Rattle.session_run.specs.Lines.{CausesLine, DoesLine, EndsAtLimit, FailsAtLimit, PrintsLine, ReportsStop};
 ghost use Rattle.session_run.specs.Seen.{HasCauses, RunsSession, session_faults, session_seen};
 
-use cli_commands::{Output, lend_text};
 use cli_lines::reaches_end;
 use cli_messages::{Reason, Stop, refused};
 use cli_reporting::{print, report};
 use outside_core::{Dice, FileStore, Sink, Source};
+use session_core::cli_commands::{Output, lend_text};
 use session_core::{LineEnd, Session, run_line};
 use std::alloc::Global;
 

@@ -4,3 +4,4 @@ pub mod Salsa20
 pub mod Stream
 pub mod Lanes
 pub mod InnerStream
+pub use Rattle.secret_core.specs.OutsideCore

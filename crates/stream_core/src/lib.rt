@@ -15,3 +15,5 @@ mod window;
 pub use chacha::ChaCha20;
 pub use inner::{InnerStream, StreamUnknown};
 pub use salsa::Salsa20;
+pub use secret_core;
+pub use secret_core::outside_core;

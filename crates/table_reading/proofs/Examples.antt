@@ -4,7 +4,7 @@ use Rattle.std.specs.Str.{chars, is_utf8, trim_end, trim_start}
 use Rattle.csv.proofs.OnLiterals.{csv_on_literals}
 use Rattle.csv.specs.Reading.{default_config, records}
 use Rattle.csv.specs.Records.{field_at}
-use Rattle.doc_forms.specs.Values.{iso_time}
+use Rattle.import_tree.specs.DocForms.Values.{iso_time}
 use Rattle.table_reading.specs.Cells.{host}
 use Rattle.table_reading.specs.Columns.{passed_names}
 use Rattle.table_reading.specs.Documents.{csv_document, table_of}

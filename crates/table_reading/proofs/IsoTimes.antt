@@ -9,7 +9,7 @@ use Rattle.jiff_core.specs.Calendar.{IsYear, days_in_month, is_leap_year}
 use Rattle.time_core.specs.Times.{IsMoment, seconds_of, iso_text, IsIso}
 use Rattle.time_core.specs.declared.iso.Moment.{Moment}
 use Rattle.table_reading.specs.Cells.{time_of}
-use Rattle.doc_forms.specs.Values.{moment_in, is_moment, iso_time}
+use Rattle.import_tree.specs.DocForms.Values.{moment_in, is_moment, iso_time}
 
 -- ---- the calendar's form
 

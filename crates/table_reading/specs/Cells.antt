@@ -3,7 +3,7 @@ use Rattle.std.specs.Prelude.{ℕ, Bool, ◌==◌, if◌then◌else◌, List, []
 use Rattle.std.specs.List.{before_first, list_any, starts_with}
 use Rattle.std.specs.Option.{unwrap_or}
 use Rattle.csv.specs.Records.{field_at}
-use Rattle.doc_forms.specs.Values.{iso_time}
+use Rattle.import_tree.specs.DocForms.Values.{iso_time}
 
 -- the text of a row in the column of this place, empty where there is no such column
 abbrev pub cell : Option ℕ → List (List ℕ) → List ℕ

@@ -11,3 +11,4 @@ mod rows;
 
 pub use fails::TableFail;
 pub use import::{ImportedTable, import_csv};
+pub use import_tree;

@@ -5,8 +5,8 @@ ghost use Rattle.text_forms.specs.Texts as texts;
 
 use base64::decoded_len_estimate;
 use base64::engine::general_purpose::STANDARD;
-use outside_core::NoMemory;
 use secret_core::Secret;
+use secret_core::outside_core::NoMemory;
 use std::alloc::Global;
 
 /// Secret memory that holds so many zeros.

@@ -8,8 +8,8 @@ ghost use Rattle.text_forms.specs.Texts as texts;
 
 use crate::spaces::is_word;
 use crate::{unescape, unescaped_len};
-use outside_core::NoMemory;
 use secret_core::Secret;
+use secret_core::outside_core::NoMemory;
 use std::alloc::Global;
 
 /// The text that raw markup stands for. Raw markup without escapes is copied as it is.

@@ -1,1 +1,2 @@
 pub mod Texts
+pub use Rattle.markup_grammar.specs as MarkupGrammar

@@ -1,6 +1,6 @@
 -- Steps of a definition that may be refused: the first refusal, or the next step.
 use Rattle.std.proofs.Common.{◌≡◌, Bool, true, false, Option, None, Some, Result, Ok, Err, ap}
-use Rattle.outside_core.specs.Results.{◌>>=◌}
+use Rattle.vault_model.specs.OutsideCore.Results.{◌>>=◌}
 use Rattle.tree_core.specs.declared.fails.TreeFail.{TreeFail}
 use Rattle.tree_core.specs.declared.fails.TreeFail.TheVariants.{NoSuchPath}
 use Rattle.tree_core.specs.After.{named_or_refusal, refuse_if}

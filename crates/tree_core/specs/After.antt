@@ -1,8 +1,8 @@
 -- The document after each command that changes it, or the first refusal.
 use Rattle.std.specs.Prelude.{◌≡◌, ◌⊎◌, ℕ, ◌+◌, Bool, true, false, not, ◌&&◌, ◌||◌, if◌then◌else◌, max, nat_lt, List, [], ◌∷◌, Option, None, Some, Result, Ok, Err, MatchResult}
 use Rattle.std.specs.Option.{ok_or, option_and_then, unwrap_or}
-use Rattle.outside_core.specs.Results.{◌>>=◌}
-use Rattle.time_core.specs.Times.{last_stamp}
+use Rattle.vault_model.specs.OutsideCore.Results.{◌>>=◌}
+use Rattle.vault_model.specs.TimeCore.Times.{last_stamp}
 use Rattle.vault_model.specs.declared.metas.Meta.{Meta}
 use Rattle.vault_model.specs.Bare.{BareAttachment, BareContent}
 use Rattle.vault_model.specs.Db.{NodeId}

@@ -3,8 +3,8 @@
 ghost use Rattle.std.specs.Prelude.{◌≡◌};
 ghost use Rattle.tree_core.specs.declared.fails.TreeFail.TheVariants as fail;
 
-use outside_core::NoMemory;
 use uuid_core::Uuid;
+use vault_model::outside_core::NoMemory;
 
 /// Why a document is not changed. Where several hold, the first of this list is the answer;
 /// NoMemory may come in the place of any.

@@ -5,8 +5,8 @@ ghost use Rattle.std.specs.List.{filter};
 ghost use Rattle.std.specs.Str.{trim};
 ghost use Rattle.tree_core.specs.Tags as spec;
 
-use outside_core::{List, NoMemory, Text};
 use std::alloc::Global;
+use vault_model::outside_core::{List, NoMemory, Text};
 
 // Where the first byte is that parts two tags.
 fn tag_end(text: &[u8]) -> Option<usize>

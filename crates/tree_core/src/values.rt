@@ -1,9 +1,9 @@
 //! The values that an entry is given, what else an edit changes, and attachments.
 
-use outside_core::Text;
-use secret_core::Secret;
 use std::rc::Rc;
 use vault_model::Stamp;
+use vault_model::outside_core::Text;
+use vault_model::secret_core::Secret;
 
 /// The values that an entry is given, each where it is given.
 #[derive(Clone, Copy)]

@@ -7,3 +7,4 @@ pub mod GroupChildren
 pub mod GroupParents
 pub mod GroupsMoved
 pub mod GroupsTaken
+pub use Rattle.tree_groups.proofs as TreeGroups

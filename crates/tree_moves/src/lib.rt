@@ -14,3 +14,4 @@ pub use groups::{fill_group, take_group};
 pub use moving::{move_entry, move_in, move_to_place, no_entry};
 pub use moving_groups::{move_found, move_group, move_group_to_place, time_of_move};
 pub use parents::parent_of;
+pub use tree_groups;

@@ -8,3 +8,4 @@ pub mod GroupsDeleted
 pub mod GroupsRecycled
 pub mod ManyTombs
 pub mod SortedTombs
+pub use Rattle.tree_moves.proofs as TreeMoves

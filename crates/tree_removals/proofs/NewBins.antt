@@ -18,7 +18,7 @@ use Rattle.vault_model.proofs.Tests.{and_true, apart, is_false, some_of}
 use Rattle.tree_core.proofs.EntriesMoved.{moved_is_doc}
 use Rattle.tree_core.specs.Changes.{changed_at, entry_at, entry_moved, has_group, is_free, level_among, level_of, with_entry, with_group}
 use Rattle.tree_core.specs.NewNodes.{as_bin, empty_bin}
-use Rattle.tree_groups.proofs.MadeDoc.{leaf_is_doc}
+use Rattle.tree_moves.proofs.TreeGroups.MadeDoc.{leaf_is_doc}
 use Rattle.tree_moves.proofs.Placed.{moved_in_place, still_there}
 use Rattle.tree_moves.specs.Places.{entry_placed}
 use Rattle.tree_removals.specs.Removes.{with_bin_in}

@@ -14,3 +14,5 @@ pub use recycling::is_recycled;
 pub use removing::remove_entry;
 pub use removing_groups::remove_group;
 pub use tombs::later;
+pub use tree_moves;
+pub use tree_moves::tree_groups;

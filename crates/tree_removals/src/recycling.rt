@@ -15,7 +15,7 @@ ghost use Rattle.tree_removals.specs.Removes.{Removes, with_bin_in};
 use outside_core::NoMemory;
 use std::alloc::Global;
 use tree_core::{Removed, TreeFail};
-use tree_groups::{new_bin, put_group};
+use tree_moves::tree_groups::{new_bin, put_group};
 use tree_moves::{move_in, move_to_place, no_entry};
 use tree_steps::{entry_of, group_of, has_group, is_free, put_entry, time_after};
 use uuid_core::Uuid;

@@ -16,7 +16,7 @@ use crate::recycling::put_top;
 use outside_core::NoMemory;
 use std::alloc::Global;
 use tree_core::{Removed, TreeFail};
-use tree_groups::{LEVELS, fits, new_bin, new_group, put_group};
+use tree_moves::tree_groups::{LEVELS, fits, new_bin, new_group, put_group};
 use tree_moves::{move_found, move_group_to_place};
 use tree_steps::{group_of, is_free, time_after};
 use uuid_core::Uuid;

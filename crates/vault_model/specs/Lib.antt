@@ -13,3 +13,5 @@ pub mod TotalOrders
 pub mod Tree
 pub mod Unite
 pub mod Walk
+pub use Rattle.secret_core.specs.OutsideCore
+pub use Rattle.time_core.specs as TimeCore

@@ -10,8 +10,8 @@ ghost use Rattle.vault_model.specs.TotalOrders.{attachment_cmp_total, field_cmp_
 
 pub mod laws;
 
-use outside_core::{List, Text};
 use secret_core::Secret;
+use secret_core::outside_core::{List, Text};
 use std::cmp::Ordering;
 use std::rc::Rc;
 use time_core::Stamp;

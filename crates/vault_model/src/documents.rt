@@ -10,7 +10,7 @@ pub mod laws;
 
 use crate::metas::Meta;
 use crate::nodes::{Group, Tombstone};
-use outside_core::List;
+use secret_core::outside_core::List;
 
 /// A document: what the database says of itself, its tree, and the tombstones of what was deleted.
 ///

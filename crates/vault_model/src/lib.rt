@@ -15,4 +15,6 @@ pub use documents::Doc;
 pub use forms::{DocForm, FileVersion, PoolItem};
 pub use metas::{Bin, Icon, Meta, MetaSettings, MetaView, Protection, Timed};
 pub use nodes::{Entry, Group, GroupState, GroupView, Tombstone, Version, entry_stamp};
+pub use secret_core;
+pub use secret_core::outside_core;
 pub use time_core::{Stamp, iso_of, stamp_of_iso};

@@ -1,7 +1,7 @@
 //! What a document says of its database.
 
 use crate::contents::Item;
-use outside_core::{Bytes, List, Text};
+use secret_core::outside_core::{Bytes, List, Text};
 use time_core::Stamp;
 use uuid_core::Uuid;
 

@@ -4,7 +4,7 @@ ghost use Rattle.std.specs.Prelude.{◌≡◌};
 ghost use Rattle.vault_model.specs.SeenNodes.{entry_record, entry_time};
 
 use crate::contents::{Content, GroupContent, Stats};
-use outside_core::List;
+use secret_core::outside_core::List;
 use time_core::Stamp;
 use uuid_core::Uuid;
 

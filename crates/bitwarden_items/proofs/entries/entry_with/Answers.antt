@@ -1,6 +1,6 @@
 use Rattle.std.proofs.Common.{◌≡◌, ℕ, ◌+◌, List, ◌∷◌, Result, Ok, map, rules, sym, ap, ◌∙◌}
 use Rattle.std.specs.Prelude.{codes}
-use Rattle.bitwarden_forms.specs.declared.fails.BitwardenFail.{BitwardenFail}
+use Rattle.bitwarden_fields.specs.BitwardenForms.declared.fails.BitwardenFail.{BitwardenFail}
 use Rattle.bitwarden_items.specs.Passwords.{EarlierPassword, date_or}
 use Rattle.bitwarden_items.specs.Seen.{passwords_seen}
 use Rattle.bitwarden_items.specs.Versions.{entry_modified, in_time, modified_at}

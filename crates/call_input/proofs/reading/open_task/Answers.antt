@@ -1,8 +1,8 @@
 use Rattle.std.proofs.Common.{[], ◌∙◌, ap, option_map, Ok}
 use Rattle.outside_core.specs.Reports.{reported}
 use Rattle.outside_core.proofs.Reports.{reported_before}
-use Rattle.cli_databases.specs.SeenOpened.{databases_seen}
-use Rattle.cli_files.proofs.FileStops.{later_at_files}
+use Rattle.cli_resealing.specs.CliDatabases.SeenOpened.{databases_seen}
+use Rattle.cli_resealing.proofs.CliFiles.FileStops.{later_at_files}
 use Rattle.cli_lines.specs.SeenLines.{lines_seen}
 use Rattle.cli_needs.specs.Needs.{files_named}
 use Rattle.call_input.proofs.ReadTasks.{attached_refused, databases_refused, opened_is}

@@ -2,7 +2,7 @@ use Rattle.std.proofs.Common.{◌∷◌, [], ◌∙◌, ap, option_map}
 use Rattle.outside_core.specs.Reports.{reported}
 use Rattle.outside_core.proofs.Reports.{reported_before}
 use Rattle.cli_needs.specs.Needs.{key_files}
-use Rattle.cli_files.proofs.FileStops.{later_at_files}
+use Rattle.cli_databases.proofs.CliFiles.FileStops.{later_at_files}
 use Rattle.vault_model.specs.SeenDoc.{doc_seen}
 use Rattle.cli_lines.specs.SeenLines.{lines_seen}
 use Rattle.cli_needs.specs.SeenNeeds.{create_seen}

@@ -1,7 +1,7 @@
 use Rattle.std.proofs.Common.{ap, option_map, ◌∙◌}
 use Rattle.outside_core.specs.Reports.{reported}
 use Rattle.outside_core.proofs.Reports.{reported_before}
-use Rattle.cli_files.specs.SeenOpened.{opened_seen}
+use Rattle.cli_databases.specs.CliFiles.SeenOpened.{opened_seen}
 use Rattle.cli_lines.specs.SeenLines.{lines_seen}
 use Rattle.cli_lines.proofs.Inputs.{kept_later}
 use Rattle.cli_needs.specs.Needs.{database_files, key_files, new_key_files}

@@ -2,7 +2,7 @@
 use Rattle.std.proofs.Common.{◌≡◌, IfOk, ap, subst, ◌∙◌}
 use Rattle.vault_model.specs.Db.{Db}
 use Rattle.vault_model.specs.Tree.{db_in}
-use Rattle.merge_checks.proofs.OwnDocs.{at_home, is_own}
+use Rattle.merge_again.proofs.MergeChecks.OwnDocs.{at_home, is_own}
 use Rattle.cli_self_test.specs.declared.counting.Counts.{Counts}
 use Rattle.cli_self_test.specs.SelfTest.{counts_of}
 use Rattle.cli_self_test.proofs.counting.counted.Goals as goal

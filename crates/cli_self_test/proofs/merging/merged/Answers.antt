@@ -2,7 +2,7 @@
 use Rattle.std.proofs.Common.{List, ap, map, sym, ◌∙◌}
 use Rattle.vault_model.specs.declared.documents.Doc.{Doc}
 use Rattle.vault_model.specs.SeenDoc.{doc_seen}
-use Rattle.document_merge.specs.Merging.{merge_result}
+use Rattle.merge_again.specs.DocumentMerge.Merging.{merge_result}
 use Rattle.cli_self_test.proofs.Stops.{is_memory}
 use Rattle.cli_self_test.proofs.merging.merged.Goals as goal
 

@@ -3,7 +3,7 @@ use Rattle.std.proofs.lemmas.Result.{err_from_is_err_and}
 use Rattle.doc_forms.specs.Entries.{ReadEntry}
 use Rattle.doc_forms.specs.Groups.{GroupParts}
 use Rattle.doc_forms.specs.SeenDrafts.{entry_seen, group_parts_seen}
-use Rattle.doc_walk.proofs.Branches.{put_in, refused_in}
+use Rattle.doc_entries.proofs.DocWalk.Branches.{put_in, refused_in}
 use Rattle.doc_groups.proofs.Places.{one_more_seen, put_last}
 use Rattle.doc_groups.proofs.group_children.entry_child.Goals as goal
 

@@ -3,8 +3,8 @@ use Rattle.vault_model.specs.Db.{NodeId}
 use Rattle.vault_model.specs.declared.contents.Item.{Item}
 use Rattle.doc_forms.specs.Groups.{GroupParts, group_rows, with_group_content}
 use Rattle.doc_forms.specs.SeenDrafts.{group_parts_seen}
-use Rattle.doc_walk.proofs.Branches.{passed_over}
-use Rattle.doc_walk.proofs.Rests.{kept_in}
+use Rattle.doc_entries.proofs.DocWalk.Branches.{passed_over}
+use Rattle.doc_entries.proofs.DocWalk.Rests.{kept_in}
 use Rattle.doc_groups.proofs.group_children.last_child.Goals as goal
 
 pub returns-in-PreviousParentGroup : goal.returns-in-PreviousParentGroup

@@ -1,7 +1,7 @@
 use Rattle.std.proofs.Common.{ℕ, List, refl}
 use Rattle.doc_forms.specs.Groups.{group_rows, with_group_content}
 use Rattle.doc_forms.specs.SeenDrafts.{group_parts_seen}
-use Rattle.doc_walk.proofs.Rests.{by_later_rows, kept_in}
+use Rattle.doc_entries.proofs.DocWalk.Rests.{by_later_rows, kept_in}
 use Rattle.doc_groups.proofs.group_children.read_child.Goals as goal
 
 pub returns-in-Name : goal.returns-in-Name

@@ -3,7 +3,7 @@ use Rattle.vault_model.specs.Db.{NodeId}
 use Rattle.vault_model.specs.declared.contents.Tri.{Tri}
 use Rattle.doc_forms.specs.Groups.{GroupParts, group_rows, with_group_content}
 use Rattle.doc_forms.specs.SeenDrafts.{group_parts_seen}
-use Rattle.doc_walk.proofs.Rests.{by_later_rows, kept_in}
+use Rattle.doc_entries.proofs.DocWalk.Rests.{by_later_rows, kept_in}
 use Rattle.doc_groups.proofs.group_children.typing_child.Goals as goal
 
 pub returns-in-DefaultAutoTypeSequence : goal.returns-in-DefaultAutoTypeSequence

@@ -5,7 +5,7 @@ use Rattle.doc_forms.specs.SeenTexts.{text_seen}
 use Rattle.doc_forms.specs.Groups.{group_child}
 use Rattle.doc_forms.specs.declared.fails.DocFail.TheVariants.{NoMemory}
 use Rattle.doc_forms.specs.SeenDrafts.{group_parts_seen}
-use Rattle.doc_walk.proofs.Goes.{all_from, at_start, refused, all_words, all_shown, all_child, all_refused, all_end, all_unended, all_form, all_depth}
+use Rattle.doc_entries.proofs.DocWalk.Goes.{all_from, at_start, refused, all_words, all_shown, all_child, all_refused, all_end, all_unended, all_form, all_depth}
 use Rattle.doc_groups.proofs.GroupWalks.{begun, ended, children_refused, group_added, group_refused, no_memory, other_child, too_deep}
 use Rattle.doc_groups.proofs.groups.+tree.Goals as goal
 

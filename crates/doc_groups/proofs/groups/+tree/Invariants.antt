@@ -2,7 +2,7 @@ use Rattle.std.proofs.Common.{◌≡◌, ◌+◌, ◌*◌, [], length}
 use Rattle.doc_forms.specs.ElementTexts.{is_protected}
 use Rattle.doc_forms.specs.Groups.{group_child}
 use Rattle.doc_forms.specs.SeenDrafts.{group_parts_seen}
-use Rattle.doc_walk.proofs.Goes.{Goes, all_from}
+use Rattle.doc_entries.proofs.DocWalk.Goes.{Goes, all_from}
 use Rattle.doc_groups.proofs.groups.+tree.Given as goal
 
 -- What the whole group holds is what the rest of it holds from here on.

@@ -5,8 +5,8 @@ use Rattle.doc_forms.specs.Groups.{ReadTree}
 use Rattle.doc_forms.specs.SeenDrafts.{draft_seen, root_parts}
 use Rattle.doc_groups.proofs.Places.{none_seen, same_fit, set_in}
 use Rattle.doc_groups.specs.GroupSteps.{group_step}
-use Rattle.doc_walk.proofs.Branches.{refused_in}
-use Rattle.doc_walk.specs.Steps.{map_rest}
+use Rattle.doc_entries.proofs.DocWalk.Branches.{refused_in}
+use Rattle.doc_entries.specs.DocWalk.Steps.{map_rest}
 use Rattle.doc_groups.proofs.roots.root_group.Goals as goal
 
 pub returns : goal.returns

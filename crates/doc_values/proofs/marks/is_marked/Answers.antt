@@ -1,6 +1,6 @@
 use Rattle.std.proofs.Common.{List, ℕ, Option, Bool, Result, Ok, ap, sym, ◌∙◌}
 use Rattle.std.specs.Option.{option_map}
-use Rattle.markup_grammar.specs.Escapes.{unescaped}
+use Rattle.doc_forms.specs.MarkupGrammar.Escapes.{unescaped}
 use Rattle.doc_forms.specs.declared.fails.DocFail.{DocFail}
 use Rattle.doc_forms.specs.ElementTexts.{is_true}
 use Rattle.doc_values.proofs.marks.is_marked.Goals as goal

@@ -1,5 +1,5 @@
 use Rattle.std.proofs.Common.{◌-◌, Bool, Some, cond, subst, arith}
-use Rattle.doc_forms.specs.Ids.{lesser_id}
+use Rattle.doc_resolving.specs.DocForms.Ids.{lesser_id}
 use Rattle.doc_resolving.proofs.IdSets.{SetFrom, one_before}
 use Rattle.import_tree.proofs.depths.least_duplicate_of.Goals as goal
 

@@ -6,7 +6,7 @@ use Rattle.cli_writing.specs.Writing.{store}
 use Rattle.cli_files.specs.SeenTask.{task_seen}
 use Rattle.cli_parse.specs.Words.{command_of}
 use Rattle.keepass_call.proofs.Answered.{comes_to, command_caused, draft_after, draws_so, early_caused, ends_left, faultless_after, kept_after, not_refused, of_task, prints_some, stop_leaves, stops_early, truth_kept, undrawn_after, unwritten_after}
-use Rattle.cli_commands.proofs.Changes.{loses_none}
+use Rattle.session_run.proofs.CliCommands.Changes.{loses_none}
 use Rattle.keepass_call.proofs.run.answer.Goals as goal
 
 pub returns-clause-told : goal.returns-clause-told

@@ -1,6 +1,6 @@
 use Rattle.std.proofs.Common.{◌≡◌, None, Ok, Err, map, refl, sym, ◌∙◌}
 use Rattle.std.specs.Prelude.{string_bytes}
-use Rattle.cli_commands.specs.SeenChange.{output_text}
+use Rattle.session_run.specs.CliCommands.SeenChange.{output_text}
 use Rattle.cli_pages.specs.Pages.{page_of}
 use Rattle.cli_pages.proofs.Openings.{opening_no_page}
 use Rattle.keepass_call.proofs.Answered.{ends_as}

@@ -1,5 +1,5 @@
 use Rattle.std.proofs.Common.{◌≡◌, length}
-use Rattle.markup_grammar.specs.Elements.{innermost, open_contents}
+use Rattle.markup_core.specs.MarkupGrammar.Elements.{innermost, open_contents}
 use Rattle.key_core.specs.KeyDocument.{is_whole}
 use Rattle.key_core.proofs.key_document.reach_end.Given as goal
 

@@ -1,5 +1,5 @@
 use Rattle.std.proofs.Common.{length, ◌++◌}
-use Rattle.markup_grammar.specs.Elements.{own_text}
+use Rattle.markup_core.specs.MarkupGrammar.Elements.{own_text}
 use Rattle.key_core.proofs.Steps.{Follows}
 use Rattle.key_core.proofs.reading.read_text.Given as goal
 

@@ -3,7 +3,7 @@ use Rattle.std.proofs.Common.{◌-◌, ◌∷◌, [], ◌++◌, List, append_ass
 use Rattle.vault_model.specs.Db.{NodeId}
 use Rattle.vault_model.specs.Join.{above, trail}
 use Rattle.merge_tables.specs.Databases.{databases}
-use Rattle.merge_parts.proofs.Trails.{trail_more}
+use Rattle.merge_join.proofs.MergeParts.Trails.{trail_more}
 use Rattle.merge_checks.proofs.cycles.push_trail.Goals as goal
 
 pub loop-left-preserved : goal.loop-left-preserved

@@ -1,8 +1,8 @@
 use Rattle.std.proofs.Common.{Ok, ap, refl, subst, sym, ◌∙◌}
 use Rattle.std.proofs.lemmas.Result.{err_from_is_err_and}
 use Rattle.cli_lines.specs.SeenLines.{last_seen}
-use Rattle.cli_commands.specs.Commands.{only_reads}
-use Rattle.cli_commands.specs.SeenChange.{output_text}
+use Rattle.call_run.specs.CliCommands.Commands.{only_reads}
+use Rattle.call_run.specs.CliCommands.SeenChange.{output_text}
 use Rattle.call_run.specs.Endings.{IsRecoverable}
 use Rattle.call_run.specs.SeenRequest.{task_by}
 use Rattle.session_core.specs.Reading.{line_read}

@@ -1,7 +1,7 @@
 use Rattle.std.proofs.Common.{arith, inr, refl, ◌∙◌}
 use Rattle.outside_core.proofs.Reports.{stays_on}
 use Rattle.cli_writing.specs.Writing.{store}
-use Rattle.cli_commands.proofs.Changes.{loses_both, loses_none}
+use Rattle.session_core.proofs.CliCommands.Changes.{loses_both, loses_none}
 use Rattle.session_run.proofs.Runs.{begins, ends_at_limit, ends_there, fell_both, runs_there}
 use Rattle.session_run.proofs.Together.{draft_both}
 use Rattle.session_run.proofs.lines.run_session.Goals as goal

@@ -1,5 +1,5 @@
 use Rattle.std.proofs.Common.{ap, sym, ◌∙◌}
-use Rattle.doc_forms.specs.Values.{iso_time}
+use Rattle.import_tree.specs.DocForms.Values.{iso_time}
 use Rattle.table_reading.proofs.IsoTimes.{iso_found, time_given}
 use Rattle.table_reading.proofs.cells.time_of.Goals as goal
 

@@ -2,8 +2,8 @@ use Rattle.std.proofs.Common.{List}
 use Rattle.vault_model.specs.declared.nodes.Tombstone.{Tombstone}
 use Rattle.doc_forms.specs.Documents.{RootParts, root_rows}
 use Rattle.doc_forms.specs.SeenDrafts.{root_parts}
-use Rattle.doc_walk.proofs.Branches.{passed_over}
-use Rattle.doc_walk.proofs.Rests.{kept_in}
+use Rattle.doc_entries.proofs.DocWalk.Branches.{passed_over}
+use Rattle.doc_entries.proofs.DocWalk.Rests.{kept_in}
 use Rattle.doc_groups.proofs.roots.RootDraftParts.read_child.Goals as goal
 
 pub returns-in-Group : goal.returns-in-Group

@@ -2,7 +2,7 @@ use Rattle.std.proofs.Common.{[], ◌∷◌, ◌++◌}
 use Rattle.std.proofs.lemmas.Result.{err_from_is_err_and}
 use Rattle.vault_model.specs.declared.nodes.Tombstone.{Tombstone}
 use Rattle.doc_forms.specs.Documents.{tombs_rows}
-use Rattle.doc_walk.proofs.Branches.{passed_over, put_in, refused_in}
+use Rattle.doc_entries.proofs.DocWalk.Branches.{passed_over, put_in, refused_in}
 use Rattle.doc_groups.proofs.tombs.TombsDraftParts.read_child.Goals as goal
 
 pub returns-in_ok-draft-in-DeletedObject : goal.returns-in_ok-draft-in-DeletedObject

@@ -1,8 +1,8 @@
 use Rattle.doc_forms.specs.Documents.{FileParts, file_rows}
 use Rattle.doc_forms.specs.Metas.{MetaParts}
 use Rattle.doc_forms.specs.SeenDrafts.{file_parts}
-use Rattle.doc_walk.proofs.Branches.{passed_over}
-use Rattle.doc_walk.proofs.Rests.{kept_in}
+use Rattle.doc_groups.proofs.DocWalk.Branches.{passed_over}
+use Rattle.doc_groups.proofs.DocWalk.Rests.{kept_in}
 use Rattle.doc_read.proofs.outermost.FileDraftParts.read_child.Goals as goal
 
 pub returns-in-Meta : goal.returns-in-Meta
