@@ -1,9 +1,11 @@
 """A folder of a row: the call that is made in it, and every file of it before and after."""
-import hashlib, os, shutil, stat, subprocess, sys, tempfile
+import hashlib, os, shutil, stat, subprocess, sys, tempfile, time
 
 TOP = os.path.dirname(os.path.dirname(os.path.dirname(os.path.abspath(__file__))))
 FAMILY = os.path.join(TOP, "examples", "family.xml")
 NOBODY = 65534
+# The seconds after which something counts as never happening. Nothing is expected to happen within a time.
+PATIENCE = 600
 
 
 def state(folder):
@@ -19,9 +21,9 @@ def state(folder):
                 with open(whole, "rb") as file:
                     content = hashlib.sha256(file.read()).hexdigest()
             # A folder's own time changes with each draft.
-            time = None if stat.S_ISDIR(one.st_mode) else one.st_mtime_ns
+            changed = None if stat.S_ISDIR(one.st_mode) else one.st_mtime_ns
             size = None if stat.S_ISDIR(one.st_mode) else one.st_size
-            found[os.path.relpath(whole, folder)] = (stat.S_IFMT(one.st_mode), one.st_ino, stat.S_IMODE(one.st_mode), one.st_uid, one.st_gid, size, time, extras(whole), content)
+            found[os.path.relpath(whole, folder)] = (stat.S_IFMT(one.st_mode), one.st_ino, stat.S_IMODE(one.st_mode), one.st_uid, one.st_gid, size, changed, extras(whole), content)
     return found
 
 
@@ -33,6 +35,17 @@ def extras(path):
         return {}
 
 
+def least(seconds, does):
+    """The seconds that something takes: the fewest of as many times as it takes more than these, since a busy machine may make anything take
+    long."""
+    until, fewest = time.monotonic() + PATIENCE, float("inf")
+    while fewest > seconds and time.monotonic() < until:
+        begun = time.monotonic()
+        does()
+        fewest = min(fewest, time.monotonic() - begun)
+    return fewest
+
+
 def differences(before, after):
     """The names of the files that were made, removed, or changed in any way."""
     return sorted(name for name in before.keys() | after.keys() if before.get(name) != after.get(name))
@@ -42,10 +55,12 @@ class Rows:
     """What is tried, and what went wrong."""
 
     def __init__(self, program):
-        self.program, self.passed, self.failed = program, 0, 0
-        self.work = tempfile.mkdtemp()
+        self.passed, self.failed, self.work = 0, 0, tempfile.mkdtemp()
         os.chmod(self.work, 0o755)
         self.folder = os.path.join(self.work, "folder")
+        # Another user, who may not read the folder of the sources, runs the program too.
+        self.program = shutil.copy(program, self.work)
+        os.chmod(self.program, 0o755)
 
     def end(self):
         shutil.rmtree(self.work, ignore_errors=True)
@@ -69,6 +84,15 @@ class Rows:
 
     def path(self, name):
         return os.path.join(self.folder, name)
+
+    def later(self):
+        """Waits until a file that is changed now is changed at a later time than all that were changed before, as the disk tells the time."""
+        times = []
+        while len(set(times)) < 2:
+            with open(os.path.join(self.work, "time"), "wb") as file:
+                file.write(b"x")
+            times.append(os.stat(file.name).st_mtime_ns)
+            time.sleep(0.001)
 
     def copy(self, name, source=FAMILY):
         shutil.copyfile(source, self.path(name))

@@ -1,6 +1,6 @@
 """Sessions: one process that writes its file again and again, and what comes between two of its lines, or into one of them."""
 import fcntl, os, select, stat, subprocess, time
-from folder import NOBODY, differences, state
+from folder import NOBODY, PATIENCE, differences, least, state
 
 OPEN = ["open", "--plain", "w.xml"]
 FAULT = "keepass: w.xml: file fault\n"
@@ -22,7 +22,7 @@ class Session:
             self.call.stdin.write(line.encode() + b"\n")
         except BrokenPipeError:
             return False
-        until = time.monotonic() + 60
+        until = time.monotonic() + PATIENCE
         while wanted not in self.printed[before:] and time.monotonic() < until:
             if select.select([self.call.stdout], [], [], 1)[0]:
                 piece = os.read(self.call.stdout.fileno(), 65536)
@@ -38,7 +38,7 @@ class Session:
     def end(self):
         """The end of the input: the status, and what was reported."""
         try:
-            _, said = self.call.communicate(timeout=60)
+            _, said = self.call.communicate(timeout=PATIENCE)
         except subprocess.TimeoutExpired:
             self.call.kill()
             _, said = self.call.communicate()
@@ -62,7 +62,7 @@ def between_lines(rows, changes):
             rows.anew("w.xml")
             session = Session(rows)
             works = session.is_open and all(session.edits(f"me{number}") for number in range(written))
-            time.sleep(0.02)
+            rows.later()
             change()
             after = state(rows.folder)
             reads = session.line("ls", b"Bank\n")
@@ -93,9 +93,10 @@ def other_calls(rows):
             except BlockingIOError:
                 free = False
         rows.judged(f"the lock is free after {written} lines that wrote the file", works and free and rows.drafts() == [], works, free, rows.drafts())
-        begun = time.monotonic()
-        rows.row("a call while a session waits", ["edit", "--plain", "-q", "-u", "call", "w.xml", "Bank"], ["w.xml"])
-        rows.judged("it does not wait for the session", time.monotonic() - begun < 5, time.monotonic() - begun)
+        words = ["edit", "--plain", "-q", "-u", "call", "w.xml", "Bank"]
+        rows.row("a call while a session waits", words, ["w.xml"])
+        taken = least(5, lambda: rows.call(words))
+        rows.judged("it does not wait for the session", taken < 5, taken)
         session.line("edit -u late Bank")
         got = session.end()
         rows.judged("the session that waited is refused, and the call's file stands", got == (7, FAULT) and user(rows) == "call", got, user(rows))
@@ -118,15 +119,17 @@ def other_calls(rows):
         got = session.end()
     rows.judged("a session waits for the lock, and works", waits and got == (0, "") and user(rows) == "me", waits, got, user(rows))
     rows.anew("w.xml")
-    session = Session(rows)
-    before = state(rows.folder)
+    before, ends = state(rows.folder), []
+
+    def waits():
+        session = Session(rows)
+        session.line("edit -u me Bank")
+        ends.append(session.end())
+
     with open(rows.path("w.xml")) as held:
         fcntl.flock(held, fcntl.LOCK_EX)
-        begun = time.monotonic()
-        session.line("edit -u me Bank")
-        got = session.end()
-    taken = time.monotonic() - begun
-    rows.judged("a session waits for a lock for ten seconds", got == (7, FAULT) and 9 < taken < 25 and state(rows.folder) == before, got, taken)
+        taken = least(25, waits)
+    rows.judged("a session waits for a lock for ten seconds", set(ends) == {(7, FAULT)} and 9 < taken < 25 and state(rows.folder) == before, ends, taken)
 
 
 def names_and_drafts(rows):
@@ -206,7 +209,7 @@ def within_a_line(rows, traced, reported, writes, changes):
             rows.anew("w.xml")
             call = traced(OPEN, LINES)
             stands = all([call.run_to(step) for step in steps])
-            time.sleep(0.02)
+            rows.later()
             change()
             after = {name: one for name, one in state(rows.folder).items() if not name.endswith(".keepass")}
             status = call.go_on()
