@@ -290,6 +290,9 @@ ID = re.compile(rb"\{[0-9a-f]{8}-[0-9a-f]{4}-[0-9a-f]{4}-[0-9a-f]{4}-[0-9a-f]{12
 ELEMENT = re.compile(rb"<([A-Za-z]+)>([^<]+)</\1>")
 IDS = re.compile(rb"UUID$|^PreviousParentGroup$|Group$")
 TIMES = re.compile(rb"(Time|Changed)$")
+# A change of an entry is a second later at least than the one before it, so times of a session may be ahead of the clock by as many
+# seconds as it has lines. Other times of the documents are farther away from it.
+AHEAD = 3600
 DELETED = re.compile(rb"<DeletedObjects>.*</DeletedObjects>", re.S)
 
 
@@ -312,7 +315,7 @@ def same_document(text, since):
                 seconds = struct.unpack("<q", base64.b64decode(value))[0] - 62135596800 if not value.endswith(b"Z") else calendar.timegm(time.strptime(value.decode(), "%Y-%m-%dT%H:%M:%SZ"))
             except (ValueError, struct.error):
                 return found.group()
-            return b"<%s>now" % name if since - 2 <= seconds <= time.time() + 2 else found.group()
+            return b"<%s>now" % name if since - 2 <= seconds <= time.time() + AHEAD else found.group()
         if IDS.search(name) and len(value) == 24 and len(set(base64.b64decode(value))) > 1:
             return b"<%s>%d" % (name, seen.setdefault(value, len(seen)))
         return found.group()
